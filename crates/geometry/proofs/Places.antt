@@ -1,0 +1,79 @@
+-- Addresses, sets and offsets, and where the bit of a row and a set stands.
+use Prim.Native.Nat.{ℕ, _+_, _*_, _/_, _%_, _<_, _≤_}
+use mathlib.Core.Path.{_≡_, sym}
+use native.Mathlib.Nat.{mod-lt, mul-comm, mul-le-mul-left, div-add-mod, div-lt-iff-lt-mul, div-div-eq-div-mul}
+use native.Mathlib.Omega.{arith}
+use lib.Arith.{digits-lt, digits-div, digits-mod}
+use Rattle.geometry.specs.declared.Geometry.{Geometry}
+use Rattle.geometry.specs.Sizes.{sets, rowWords, matchWords, setOf, offsetOf, addressOf}
+use Rattle.geometry.specs.Stages.{rows, indicatorWords}
+use Rattle.geometry.proofs.Facts.{Facts}
+
+module _ (g : Geometry) (f : Facts g) where
+  pub set-lt : (a : ℕ) → a < g .depth → setOf g a < sets g
+  set-lt a h = div-lt-iff-lt-mul (f .set-pos) .1 (omega arith)
+
+  pub offset-lt : (a : ℕ) → offsetOf g a < g .«set_width»
+  offset-lt a = mod-lt a (f .set-pos)
+
+  pub address-lt : (s o : ℕ) → s < sets g → o < g .«set_width» → addressOf g s o < g .depth
+  address-lt s o hs ho = omega (arith, digits-lt hs ho)
+
+  -- past the last set there is no address
+  pub address-past : (s o : ℕ) → sets g ≤ s → g .depth ≤ addressOf g s o
+  address-past s o h = omega (arith, mul-le-mul-left (g .«set_width») h)
+
+  pub address-of : (a : ℕ) → addressOf g (setOf g a) (offsetOf g a) ≡ a
+  address-of a = div-add-mod a (g .«set_width»)
+
+  pub set-of : (s o : ℕ) → o < g .«set_width» → setOf g (addressOf g s o) ≡ s
+  set-of s o h = rw mul-comm (digits-div s h)
+
+  pub offset-of : (s o : ℕ) → o < g .«set_width» → offsetOf g (addressOf g s o) ≡ o
+  offset-of s o h = rw mul-comm (digits-mod s h)
+
+  -- document 01's w of an address: the word of its set
+  pub word-of : (a : ℕ) → a / (64 * g .«set_width») ≡ setOf g a / 64
+  word-of a = rw mul-comm (sym (div-div-eq-div-mul a (g .«set_width») 64))
+
+  pub sets-pos : 0 < sets g
+  sets-pos = omega (arith, set-lt 0 (omega arith))
+
+  pub sets-most : sets g ≤ 64 * rowWords g
+  unfolding rowWords
+  sets-most = omega arith
+
+  pub words-pos : 0 < rowWords g
+  unfolding rowWords
+  words-pos = omega (arith, sets-pos)
+
+  -- the word of a set is a word of a row
+  pub word-lt : (s : ℕ) → s < sets g → s / 64 < rowWords g
+  unfolding rowWords
+  word-lt s h = omega arith
+
+  pub matches-most : g .depth ≤ 64 * matchWords g
+  unfolding matchWords
+  matches-most = omega arith
+
+  -- word j of row r, and back
+  pub place-lt : (r j : ℕ) → r < rows g → j < rowWords g → rowWords g * r + j < indicatorWords g
+  unfolding indicatorWords
+  place-lt r j hr hj = omega (arith, digits-lt hr hj)
+
+  pub row-of-place : (r j : ℕ) → j < rowWords g → (rowWords g * r + j) / rowWords g ≡ r
+  row-of-place r j hj = rw mul-comm (digits-div r hj)
+
+  pub word-of-place : (r j : ℕ) → j < rowWords g → (rowWords g * r + j) % rowWords g ≡ j
+  word-of-place r j hj = rw mul-comm (digits-mod r hj)
+
+  pub place-of : (m : ℕ) → rowWords g * (m / rowWords g) + m % rowWords g ≡ m
+  place-of m = div-add-mod m (rowWords g)
+
+  -- every word of the indicators belongs to a row
+  pub row-lt : (m : ℕ) → m < indicatorWords g → m / rowWords g < rows g
+  unfolding indicatorWords
+  row-lt m h = div-lt-iff-lt-mul words-pos .1 (omega arith)
+
+  pub word-lt-row : (m : ℕ) → m % rowWords g < rowWords g
+  word-lt-row m = mod-lt m words-pos

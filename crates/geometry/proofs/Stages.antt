@@ -1,0 +1,111 @@
+-- The stages of a pattern: each is below 2^(its width), together they determine the pattern, and rows of different
+-- stages differ.
+use Prim.Native.Nat.{ℕ, zero, suc, _+_, _-_, _*_, _/_, _^_, _<_, _≤_}
+use mathlib.Core.Path.{_≡_, refl, sym, ap, _∙_}
+use mathlib.Core.Bool.{Bool, true, false, cond}
+use mathlib.Core.List.{[], _∷_}
+use mathlib.Core.Logic.{_⊎_, inl, inr}
+use native.Mathlib.Nat.{mod-lt, mul-suc}
+use native.Mathlib.Omega.{arith}
+use lib.Dec.{eqb, ltb}
+use lib.Pow.{pow-pos, shr-shr, shr-mod, split}
+use borrow.Author.Tests.{ltb-true, ltb-false, lt-ltb, le-ltb}
+use Rattle.words.specs.Rules.{tabulate}
+use Rattle.geometry.specs.declared.Geometry.{Geometry}
+use Rattle.geometry.specs.Valid.{cascaded}
+use Rattle.geometry.specs.Sizes.{roundedUp, patterns}
+use Rattle.geometry.specs.Stages.{stages, stageWidth, stage, rowOf, rowsOf, rows}
+use Rattle.geometry.proofs.Facts.{Facts}
+
+-- the rows of the stages before stage k
+unfoldable pub rowsBefore : Geometry → ℕ → ℕ
+rowsBefore g zero = 0
+rowsBefore g (suc k) = rowsBefore g k + 2 ^ stageWidth g k
+
+module _ (g : Geometry) (f : Facts g) where
+  pub stages-pos : 1 ≤ stages g
+  unfolding stages
+  stages-pos = go (eqb (g .kind) cascaded)
+    where
+      go : (c : Bool) → 1 ≤ cond c (roundedUp (g .«pattern_width») 9) 1
+      go true = omega arith
+      go false = omega arith
+
+  pub stage-lt : (k p : ℕ) → stage g k p < 2 ^ stageWidth g k
+  unfolding stage
+  stage-lt k p = mod-lt _ (pow-pos (stageWidth g k))
+
+  width-inner : (k : ℕ) → k + 1 < stages g → stageWidth g k ≡ 9
+  unfolding stageWidth
+  width-inner k h = rw (lt-ltb (k + 1) (stages g) h)
+
+  width-last : (k : ℕ) → k + 1 ≡ stages g → stageWidth g k ≡ g .«pattern_width» - 9 * k
+  unfolding stageWidth
+  width-last k e = rw (le-ltb (k + 1) (stages g) (omega arith))
+
+  inner-lt : (k p : ℕ) → k + 1 < stages g → stage g k p < 512
+  inner-lt k p h = rw (width-inner k h) at (stage-lt k p)
+
+  -- a pattern from stage k on: the stages above k and below them stage k, or the last stage alone
+  inner : (k p : ℕ) → k + 1 < stages g → p / 2 ^ (9 * k) ≡ p / 2 ^ (9 * suc k) * 512 + stage g k p
+  unfolding stage
+  inner k p h = rw (width-inner k h, mul-suc 9 k, ← shr-shr p (9 * k) 9) (sym (split (p / 2 ^ (9 * k)) 9))
+
+  last : (k p : ℕ) → k + 1 ≡ stages g → p < patterns g → p / 2 ^ (9 * k) ≡ stage g k p
+  unfolding stage patterns
+  last k p e h = rw (width-last k e) (sym (shr-mod (g .«pattern_width» - 9 * k) (9 * k) (rw (exact (f .staged)) h)))
+    where
+      exact : (stages g ≡ 1) ⊎ (9 * stages g < g .«pattern_width» + 9) → g .«pattern_width» - 9 * k + 9 * k ≡ g .«pattern_width»
+      exact (inl one) = omega arith
+      exact (inr many) = omega arith
+
+  pub stages-determine : (p q : ℕ) → p < patterns g → q < patterns g → ((k : ℕ) → k < stages g → stage g k p ≡ stage g k q) → p ≡ q
+  stages-determine p q hp hq h = omega (arith, from (stages g - 1) 0 (omega (arith, stages-pos)))
+    where
+      from : (left k : ℕ) → left + k + 1 ≡ stages g → p / 2 ^ (9 * k) ≡ q / 2 ^ (9 * k)
+      from zero k e = last k p (omega arith) hp ∙ h k (omega arith) ∙ sym (last k q (omega arith) hq)
+      from (suc left) k e = omega (arith, inner k p (omega arith), inner k q (omega arith), h k (omega arith), from left (suc k) (omega arith))
+
+  pub row-lt : (p k : ℕ) → k < stages g → rowOf g p k < rows g
+  unfolding rowOf rows
+  row-lt p k h = go (ltb (k + 1) (stages g)) refl
+    where
+      go : (b : Bool) → ltb (k + 1) (stages g) ≡ b → 512 * k + stage g k p < 512 * (stages g - 1) + 2 ^ stageWidth g (stages g - 1)
+      go true t = let below = ltb-true (k + 1) (stages g) t in omega (arith, inner-lt k p below)
+      go false t =
+          let e : stages g - 1 ≡ k = omega (arith, ltb-false (k + 1) (stages g) t) in
+          rw e (omega (arith, stage-lt k p))
+
+  stage-le : (p q k l : ℕ) → l < stages g → rowOf g p k ≡ rowOf g q l → l ≤ k
+  unfolding rowOf
+  stage-le p q k l h e = go (ltb k l) refl
+    where
+      go : (b : Bool) → ltb k l ≡ b → l ≤ k
+      go true t = let below = ltb-true k l t in omega (arith, inner-lt k p (omega arith))
+      go false t = ltb-false k l t
+
+  -- a row tells its stage and the stage's value
+  pub row-stage : (p q k l : ℕ) → k < stages g → l < stages g → rowOf g p k ≡ rowOf g q l → k ≡ l
+  row-stage p q k l hk hl e = omega (arith, stage-le p q k l hl e, stage-le q p l k hk (sym e))
+
+  pub row-value : (p q k l : ℕ) → k < stages g → l < stages g → rowOf g p k ≡ rowOf g q l → stage g k p ≡ stage g k q
+  unfolding rowOf
+  row-value p q k l hk hl e = omega (arith, rw (← row-stage p q k l hk hl e) at e)
+
+  -- where there is one stage, it is the whole pattern, and the pattern is its row
+  pub one-stage : (p : ℕ) → stages g ≡ 1 → p < patterns g → rowsOf g p ≡ (p ∷ [])
+  unfolding rowsOf rowOf tabulate
+  one-stage p e h = rw e (ap (λ (r : ℕ). r ∷ []) (omega (arith, last 0 p (sym e) h)))
+
+  -- every stage but the last has 512 rows
+  rows-before : (k : ℕ) → k < stages g → rowsBefore g k ≡ 512 * k
+  unfolding rowsBefore
+  rows-before zero h = refl
+  rows-before (suc k) h = rw (width-inner k (omega arith)) (omega (arith, rows-before k (omega arith)))
+
+  -- the rows of all stages, one stage after the other
+  pub rows-all : rows g ≡ rowsBefore g (stages g)
+  unfolding rows rowsBefore
+  rows-all =
+      let e : suc (stages g - 1) ≡ stages g = omega (arith, stages-pos) in
+      omega (arith, rows-before (stages g - 1) (omega arith), ap (rowsBefore g) e)

@@ -1,0 +1,38 @@
+-- The stages of a pattern (document 01: slices) and the rows that a pattern has. Rows are numbered through all stages,
+-- row r of stage k being 512 * k + r, so word j of a row stands at its number times the words of a row, plus j.
+use Prim.Native.Nat.{ℕ, _+_, _-_, _*_, _/_, _%_, _^_}
+use mathlib.Core.Bool.{Bool, cond}
+use mathlib.Core.List.{List}
+use lib.Dec.{eqb, ltb}
+use Rattle.words.specs.Rules.{tabulate}
+use Rattle.geometry.specs.declared.Geometry.{Geometry}
+use Rattle.geometry.specs.Valid.{cascaded}
+use Rattle.geometry.specs.Sizes.{roundedUp, rowWords}
+
+-- The cascaded kind cuts a pattern into parts of nine bits from the low end; in the others it is one stage whole.
+unfoldable pub stages : Geometry → ℕ
+stages g = cond (eqb (g .kind) cascaded) (roundedUp (g .«pattern_width») 9) 1
+
+-- Nine bits, but for the last stage, which has those that are left.
+unfoldable pub stageWidth : Geometry → ℕ → ℕ
+stageWidth g k = cond (ltb (k + 1) (stages g)) 9 (g .«pattern_width» - 9 * k)
+
+-- The value of stage k of pattern p.
+unfoldable pub stage : Geometry → (k p : ℕ) → ℕ
+stage g k p = p / 2 ^ (9 * k) % 2 ^ stageWidth g k
+
+-- The row of stage k of pattern p.
+unfoldable pub rowOf : Geometry → (p k : ℕ) → ℕ
+rowOf g p k = 512 * k + stage g k p
+
+-- The rows of pattern p, one in each stage.
+unfoldable pub rowsOf : Geometry → (p : ℕ) → List ℕ
+rowsOf g p = tabulate (stages g) (rowOf g p)
+
+-- The rows in all: every stage but the last has 512.
+unfoldable pub rows : Geometry → ℕ
+rows g = 512 * (stages g - 1) + 2 ^ stageWidth g (stages g - 1)
+
+-- The words of the indicators.
+unfoldable pub indicatorWords : Geometry → ℕ
+indicatorWords g = rowWords g * rows g

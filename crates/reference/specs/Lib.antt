@@ -1,0 +1,12 @@
+pub mod Entry
+pub mod Calls
+pub mod Stops
+pub mod Array
+pub mod Tables
+pub mod Image
+pub mod Update
+pub mod Search
+pub mod Steps
+pub mod History
+pub mod Line
+pub mod Cases

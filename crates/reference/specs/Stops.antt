@@ -1,0 +1,26 @@
+-- Document 01's table "Where a call stops": its rows are tested from the top, and the first that applies is given.
+use Prim.Native.Nat.{ℕ}
+use mathlib.Core.Bool.{Bool, true, false}
+use mathlib.Core.List.{List, [], _∷_}
+use mathlib.Core.Option.{Option, none, some}
+use lib.Dec.{leb}
+use Rattle.geometry.specs.declared.Geometry.{Geometry}
+use Rattle.geometry.specs.Sizes.{patterns}
+
+-- A row of the table at one call: the number, given when the test holds.
+pub data Stop : Type 0 where
+  _given-when_ : (number : ℕ) (test : Bool) → Stop
+
+infix 70 _given-when_
+unfoldable pub firstStop : List Stop → Option ℕ
+firstStop [] = none
+firstStop ((n given-when true) ∷ rest) = some n
+firstStop ((n given-when false) ∷ rest) = firstStop rest
+
+-- "address is D or more"
+unfoldable pub badAddress : Geometry → ℕ → Bool
+badAddress g a = leb (g .depth) a
+
+-- "pattern is 2^P or more"
+unfoldable pub badPattern : Geometry → ℕ → Bool
+badPattern g p = leb (patterns g) p

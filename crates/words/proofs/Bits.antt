@@ -1,0 +1,179 @@
+-- Laws of single bits, for any width.
+use Prim.Native.Nat.{ℕ, zero, suc, _+_, _-_, _*_, _/_, _%_, _^_, _<_, _≤_, suc-le-suc}
+use native.Mathlib.Nat.{add-comm, le-add-right, div-div-eq-div-mul, div-eq-of-lt, div-one, lt-of-lt-of-le, le-of-suc-le-suc, mod-lt, mul-comm, pow-suc, zero-div, zero-lt-suc}
+use native.Mathlib.Omega.{arith}
+use mathlib.Core.Path.{_≡_, refl, sym, ap, ap₂, _∙_}
+use mathlib.Core.Bool.{Bool, true, false, cond, not, _&&_, _||_}
+use lib.Dec.{eqb, ltb, leb·zero, leb·suc-zero, leb·suc-suc, eqb·zero-suc, eqb·suc-zero, eqb·suc-suc}
+use lib.Pow.{pow-mono, pow-pos}
+use lib.Bits.{bitAnd, bitOr, bitXor, and-shr, or-shr, xor-shr, and-mod, or-mod, xor-mod}
+use lib.Count.{trailingZeros, under}
+use Rattle.words.specs.Rules.{count, tabulate, First}
+use Rattle.words.specs.Bits.{bit, setBit, clearBit, word, totalOnes}
+use Rattle.words.proofs.Rules.{count-add, count-ext}
+
+-- a digit is 0 or 1
+two : (P : ℕ → Type 0) → P 0 → P 1 → (n : ℕ) → P (n % 2)
+two P p q n = go (n % 2) (mod-lt n (zero-lt-suc 1))
+  where
+    go : (d : ℕ) → d < 2 → P d
+    go zero h = p
+    go (suc zero) h = q
+    go (suc (suc d)) h = absurd (omega arith)
+
+bit-low : (n : ℕ) → bit n 0 ≡ eqb (n % 2) 1
+unfolding bit
+bit-low n = rw div-one
+
+bit-suc : (n i : ℕ) → bit n (suc i) ≡ bit (n / 2) i
+unfolding bit
+bit-suc n i = rw (pow-suc, mul-comm (2 ^ i) 2, ← div-div-eq-div-mul)
+
+low-of-bit : (n : ℕ) → cond (bit n 0) 1 0 ≡ n % 2
+low-of-bit n = rw bit-low (two (λ d. cond (eqb d 1) 1 0 ≡ d) refl refl n)
+
+pub word-ext : (n : ℕ) (r s : ℕ → Bool) → ((i : ℕ) → i < n → r i ≡ s i) → word n r ≡ word n s
+unfolding word
+word-ext zero r s h = refl
+word-ext (suc n) r s h =
+    ap₂ (λ (b : Bool) (w : ℕ). cond b 1 0 + 2 * w) (h 0 (zero-lt-suc n)) (word-ext n (λ i. r (suc i)) (λ i. s (suc i)) (λ i l. h (suc i) (suc-le-suc l)))
+
+-- a number is the word of its bits
+word-bit : (n a : ℕ) → a < 2 ^ n → word n (bit a) ≡ a
+unfolding word
+word-bit zero a h = omega arith
+word-bit (suc n) a h =
+    ap₂ (λ (d w : ℕ). d + 2 * w) (low-of-bit a)
+    (word-ext n (λ i. bit a (suc i)) (bit (a / 2)) (λ i l. bit-suc a i) ∙ word-bit n (a / 2) (omega (arith, rw pow-suc at h)))
+    ∙ omega arith
+
+-- two numbers of n bits with equal bits are equal
+pub bit-ext : (n a b : ℕ) → a < 2 ^ n → b < 2 ^ n → ((i : ℕ) → i < n → bit a i ≡ bit b i) → a ≡ b
+bit-ext n a b ha hb h = sym (word-bit n a ha) ∙ word-ext n (bit a) (bit b) h ∙ word-bit n b hb
+
+-- so are two numbers of any size whose bits are all equal
+pub bits-equal : (a b : ℕ) → ((i : ℕ) → bit a i ≡ bit b i) → a ≡ b
+bits-equal a b h = bit-ext (a + b) a b (below a b) (rw add-comm (below b a)) (λ i l. h i)
+  where
+    below : (x y : ℕ) → x < 2 ^ (x + y)
+    below x y = lt-of-lt-of-le (small x) (pow-mono (le-add-right x y))
+      where
+        small : (n : ℕ) → n < 2 ^ n
+        small zero = omega arith
+        small (suc n) = omega (arith, pow-suc 2 n, small n)
+
+pub bit-zero : (i : ℕ) → bit 0 i ≡ false
+unfolding bit
+bit-zero i = rw zero-div
+
+-- no bit from the width on
+pub bit-out : (n a i : ℕ) → a < 2 ^ n → n ≤ i → bit a i ≡ false
+unfolding bit
+bit-out n a i h l = rw (div-eq-of-lt (lt-of-lt-of-le h (pow-mono l)))
+
+-- the n low bits set
+pub bit-ones : (n i : ℕ) → bit (2 ^ n - 1) i ≡ ltb i n
+bit-ones zero i = bit-zero i ∙ sym (leb·suc-zero i)
+bit-ones (suc n) zero =
+    let odd : (2 ^ suc n - 1) % 2 ≡ 1 = omega (arith, pow-suc 2 n, pow-pos n) in
+    rw (bit-low, odd, leb·suc-suc, leb·zero)
+bit-ones (suc n) (suc i) =
+    let half : (2 ^ suc n - 1) / 2 ≡ 2 ^ n - 1 = omega (arith, pow-suc 2 n, pow-pos n) in
+    rw (bit-suc, half, bit-ones n i, leb·suc-suc)
+
+bit-pow : (i j : ℕ) → bit (2 ^ i) j ≡ eqb j i
+bit-pow zero zero = bit-low 1
+bit-pow zero (suc j) = bit-suc 1 j ∙ bit-zero j ∙ sym (eqb·suc-zero j)
+bit-pow (suc i) zero =
+    let even : 2 ^ suc i % 2 ≡ 0 = omega (arith, pow-suc 2 i) in
+    rw (bit-low, even, eqb·zero-suc i)
+bit-pow (suc i) (suc j) =
+    let half : 2 ^ suc i / 2 ≡ 2 ^ i = omega (arith, pow-suc 2 i) in
+    rw (bit-suc, half, bit-pow i j, eqb·suc-suc)
+
+-- an operation on numbers that works on each bit apart, as g does
+module _ (op : ℕ → ℕ → ℕ) (g : Bool → Bool → Bool)
+    (shr : (a b k : ℕ) → op a b / 2 ^ k ≡ op (a / 2 ^ k) (b / 2 ^ k))
+    (low : (a b k : ℕ) → op a b % 2 ^ k ≡ op (a % 2 ^ k) (b % 2 ^ k))
+    (e00 : eqb (op 0 0) 1 ≡ g false false)
+    (e01 : eqb (op 0 1) 1 ≡ g false true)
+    (e10 : eqb (op 1 0) 1 ≡ g true false)
+    (e11 : eqb (op 1 1) 1 ≡ g true true) where
+  bit-op : (a b i : ℕ) → bit (op a b) i ≡ g (bit a i) (bit b i)
+  unfolding bit
+  bit-op a b i =
+      rw (shr, low (a / 2 ^ i) (b / 2 ^ i) 1)
+      (two (λ x. eqb (op x (b / 2 ^ i % 2)) 1 ≡ g (eqb x 1) (eqb (b / 2 ^ i % 2) 1))
+      (two (λ y. eqb (op 0 y) 1 ≡ g false (eqb y 1)) e00 e01 (b / 2 ^ i))
+      (two (λ y. eqb (op 1 y) 1 ≡ g true (eqb y 1)) e10 e11 (b / 2 ^ i)) (a / 2 ^ i))
+
+pub bit-and : (a b i : ℕ) → bit (bitAnd a b) i ≡ (bit a i && bit b i)
+bit-and = bit-op bitAnd _&&_ and-shr and-mod refl refl refl refl
+
+pub bit-set : (n i j : ℕ) → bit (setBit n i) j ≡ (eqb j i || bit n j)
+unfolding setBit
+bit-set n i j = bit-op bitOr (λ x y. y || x) or-shr or-mod refl refl refl refl n (2 ^ i) j ∙ rw bit-pow
+
+pub bit-clear : (n i j : ℕ) → bit (clearBit n i) j ≡ (not (eqb j i) && bit n j)
+unfolding clearBit
+bit-clear n i j =
+    bit-op (λ a b. bitXor (bitOr a b) b) (λ x y. not y && x) (λ a b k. rw (xor-shr, or-shr)) (λ a b k. rw (xor-mod, or-mod)) refl refl refl refl n (2 ^ i) j
+    ∙ rw bit-pow
+
+flag-lt : (b : Bool) → cond b 1 0 < 2
+flag-lt true = omega arith
+flag-lt false = omega arith
+
+pub bit-word : (n : ℕ) (r : ℕ → Bool) (i : ℕ) → i < n → bit (word n r) i ≡ r i
+unfolding word
+bit-word zero r i l = absurd (omega arith)
+bit-word (suc n) r zero l =
+    let w : ℕ = word n (λ i. r (suc i)) in
+    let low : (cond (r 0) 1 0 + 2 * w) % 2 ≡ cond (r 0) 1 0 = omega (arith, flag-lt (r 0)) in
+    rw (bit-low, low) (flag (r 0))
+  where
+    flag : (b : Bool) → eqb (cond b 1 0) 1 ≡ b
+    flag true = refl
+    flag false = refl
+bit-word (suc n) r (suc i) l =
+    let w : ℕ = word n (λ i. r (suc i)) in
+    let half : (cond (r 0) 1 0 + 2 * w) / 2 ≡ w = omega (arith, flag-lt (r 0)) in
+    rw (bit-suc, half) (bit-word n (λ i. r (suc i)) i (le-of-suc-le-suc l))
+
+pub word-lt : (n : ℕ) (r : ℕ → Bool) → word n r < 2 ^ n
+unfolding word
+word-lt zero r = omega arith
+word-lt (suc n) r = omega (arith, pow-suc 2 n, flag-lt (r 0), word-lt n (λ i. r (suc i)))
+
+-- the lowest set bit, of a number that has one
+pub trailing-lowest : (n a : ℕ) → a < 2 ^ n → 0 < a → First n (bit a) (trailingZeros n a)
+unfolding trailingZeros
+trailing-lowest zero a h p = absurd (omega arith)
+trailing-lowest (suc n) a h p = go (a % 2) refl (λ q. trailing-lowest n (a / 2) (omega (arith, rw pow-suc at h)) q)
+  where
+    go : (d : ℕ) → a % 2 ≡ d → (0 < a / 2 → First n (bit (a / 2)) (trailingZeros n (a / 2))) → First (suc n) (bit a) (under d (trailingZeros n (a / 2)))
+    go zero e rest =
+        let f = rest (omega arith) in
+        record { within = suc-le-suc (f .within); here = rw bit-suc (f .here); none-before = before (f .none-before) }
+      where
+        before : {t : ℕ} → ((j : ℕ) → j < t → bit (a / 2) j ≡ false) → (j : ℕ) → j < suc t → bit a j ≡ false
+        before b zero l = rw (bit-low, e)
+        before b (suc j) l = rw bit-suc (b j (le-of-suc-le-suc l))
+    go (suc d) e rest =
+        let one : a % 2 ≡ 1 = omega arith in
+        record { within = zero-lt-suc n; here = rw (bit-low, one); none-before = λ j l. absurd (omega arith) }
+
+-- words that hold a rule over all their positions have as many ones as it holds often
+pub ones-of-rule : (n : ℕ) (r : ℕ → Bool) → totalOnes (tabulate n (λ j. word 64 (λ b. r (64 * j + b)))) ≡ count (64 * n) r
+unfolding totalOnes tabulate
+ones-of-rule zero r = unfold count in refl
+ones-of-rule (suc n) r =
+    ap₂ (λ (x y : ℕ). x + y) (count-ext 64 (bit (word 64 first)) r (λ i l. bit-word 64 first i l ∙ ap r (omega arith)))
+    (ap (λ (f : ℕ → ℕ). totalOnes (tabulate n f)) (simp shift) ∙ ones-of-rule n (λ i. r (64 + i)))
+    ∙ sym (count-add 64 (64 * n) r) ∙ ap (λ (k : ℕ). count k r) (omega arith)
+  where
+    first : ℕ → Bool
+    first b = r (64 * 0 + b)
+
+    shift : (j b : ℕ) → 64 * suc j + b ≡ 64 + (64 * j + b)
+    shift j b = omega arith

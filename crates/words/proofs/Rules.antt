@@ -1,0 +1,127 @@
+-- Laws of rules over numbers, and of the lists made by them.
+use Prim.Native.Nat.{ℕ, zero, suc, _+_, _<_}
+use mathlib.Core.Logic.{_⊎_, inl, inr}
+use mathlib.Core.Path.{_≡_, refl, sym, ap, _∙_}
+use mathlib.Core.Bool.{Bool, true, false, cond, not, _&&_, _||_, false≢true, or-true, or-false, or-assoc, and-false}
+use mathlib.Core.List.{List, [], _∷_}
+use native.Mathlib.Nat.{add-zero, add-suc, add-assoc, le-of-suc-le-suc, eq-or-lt-of-le}
+use native.Mathlib.Decide.{decLt}
+use native.Mathlib.Omega.{arith}
+use lib.Dec.{eqb}
+use lib.ListN.{length, getD}
+use lib.Seq.{ext-getD}
+use borrow.Author.Tests.{eqb-true}
+use Rattle.words.specs.Rules.{any, count, member, keep, tabulate, First, Nowhere}
+
+pub any-witness : (n : ℕ) (r : ℕ → Bool) → any n r ≡ true → (i : ℕ) × (i < n) × (r i ≡ true)
+unfolding any
+any-witness zero r h = absurd (false≢true h)
+any-witness (suc n) r h = go (any n r) refl (any-witness n r)
+  where
+    go : (b : Bool) → any n r ≡ b → (any n r ≡ true → (i : ℕ) × (i < n) × (r i ≡ true)) → (i : ℕ) × (i < suc n) × (r i ≡ true)
+    go true e before = let w = before e in (w .0, omega arith, w .2)
+    go false e before = (n, omega arith, rw e at h)
+
+pub any-true : (n : ℕ) (r : ℕ → Bool) (i : ℕ) → i < n → r i ≡ true → any n r ≡ true
+unfolding any
+any-true zero r i l h = absurd (omega arith)
+any-true (suc n) r i l h = go (eq-or-lt-of-le (le-of-suc-le-suc l)) (λ m. any-true n r i m h)
+  where
+    go : (i ≡ n) ⊎ (i < n) → (i < n → any n r ≡ true) → any (suc n) r ≡ true
+    go (inl e) before = rw (rw e at h) (or-true (any n r))
+    go (inr m) before = rw (before m)
+
+pub any-false : (n : ℕ) (r : ℕ → Bool) → Nowhere n r → any n r ≡ false
+unfolding any
+any-false zero r h = refl
+any-false (suc n) r h = rw (any-false n r (λ i l. h i (omega arith)), h n (omega arith))
+
+-- what any-false needs, back
+pub none-of-any : (n : ℕ) (r : ℕ → Bool) → any n r ≡ false → Nowhere n r
+none-of-any n r h i l = go (r i) refl
+  where
+    go : (b : Bool) → r i ≡ b → r i ≡ false
+    go true e = cc (any-true n r i l e)
+    go false e = e
+
+pub any-ext : (n : ℕ) (r s : ℕ → Bool) → ((i : ℕ) → i < n → r i ≡ s i) → any n r ≡ any n s
+unfolding any
+any-ext zero r s h = refl
+any-ext (suc n) r s h = rw (any-ext n r s (λ i l. h i (omega arith)), h n (omega arith))
+
+-- one place apart from the others
+pub any-split : (n : ℕ) (r : ℕ → Bool) (o : ℕ) → o < n → any n r ≡ (r o || any n (λ i. not (eqb i o) && r i))
+any-split n r o l = go (r o) refl
+  where
+    other : (i : ℕ) (b : Bool) → r o ≡ false → eqb i o ≡ b → r i ≡ (not b && r i)
+    other i true e t = rw (eqb-true i o t) e
+    other i false e t = refl
+
+    go : (b : Bool) → r o ≡ b → any n r ≡ (b || any n (λ i. not (eqb i o) && r i))
+    go true e = any-true n r o l e
+    go false e = any-ext n r _ (λ i m. other i (eqb i o) e refl)
+
+-- the lowest place apart from the others
+any-front : (n : ℕ) (r : ℕ → Bool) → any (suc n) r ≡ (r 0 || any n (λ i. r (suc i)))
+unfolding any
+any-front zero r = sym (or-false (r 0))
+any-front (suc n) r = ap (λ b. b || r (suc n)) (any-front n r) ∙ or-assoc (r 0) (any n (λ i. r (suc i))) (r (suc n))
+
+pub count-ext : (n : ℕ) (r s : ℕ → Bool) → ((i : ℕ) → i < n → r i ≡ s i) → count n r ≡ count n s
+unfolding count
+count-ext zero r s h = refl
+count-ext (suc n) r s h = rw (count-ext n r s (λ i l. h i (omega arith)), h n (omega arith))
+
+pub count-none : (n : ℕ) (r : ℕ → Bool) → Nowhere n r → count n r ≡ 0
+unfolding count
+count-none zero r h = refl
+count-none (suc n) r h = rw (count-none n r (λ i l. h i (omega arith)), h n (omega arith))
+
+pub count-add : (n m : ℕ) (r : ℕ → Bool) → count (n + m) r ≡ count n r + count m (λ i. r (n + i))
+unfolding count
+count-add n zero r = simp add-zero
+count-add n (suc m) r = rw (add-suc, count-add n m r, add-assoc)
+
+pub length-tabulate : (n : ℕ) (f : ℕ → ℕ) → length (tabulate n f) ≡ n
+unfolding tabulate
+length-tabulate zero f = refl
+length-tabulate (suc n) f = ap suc (length-tabulate n (λ i. f (suc i)))
+
+pub getD-tabulate : (n : ℕ) (f : ℕ → ℕ) (i d : ℕ) → i < n → getD (tabulate n f) i d ≡ f i
+unfolding tabulate
+getD-tabulate zero f i d l = absurd (omega arith)
+getD-tabulate (suc n) f zero d l = refl
+getD-tabulate (suc n) f (suc i) d l = getD-tabulate n (λ k. f (suc k)) i d (omega arith)
+
+-- a list is tabulated by its elements
+pub list-tabulate : (l : List ℕ) (n : ℕ) (f : ℕ → ℕ) → length l ≡ n → ((i : ℕ) → i < n → getD l i 0 ≡ f i) → l ≡ tabulate n f
+list-tabulate l n f e h =
+    ext-getD 0 l (tabulate n f) (e ∙ sym (length-tabulate n f)) (λ i m. h i (omega arith) ∙ sym (getD-tabulate n f i 0 (omega arith)))
+
+pub tabulate-ext : (n : ℕ) (f g : ℕ → ℕ) → ((i : ℕ) → i < n → f i ≡ g i) → tabulate n f ≡ tabulate n g
+tabulate-ext n f g h = list-tabulate (tabulate n f) n g (length-tabulate n f) (λ i l. getD-tabulate n f i 0 l ∙ h i l)
+
+pub member-tabulate : (x n : ℕ) (f : ℕ → ℕ) → member x (tabulate n f) ≡ any n (λ i. eqb x (f i))
+unfolding member tabulate any
+member-tabulate x zero f = refl
+member-tabulate x (suc n) f = rw (member-tabulate x n (λ i. f (suc i))) (sym (any-front n (λ i. eqb x (f i))))
+
+pub member-keep : (x : ℕ) (r : ℕ → Bool) (xs : List ℕ) → member x (keep r xs) ≡ (member x xs && r x)
+unfolding member keep
+member-keep x r [] = refl
+member-keep x r (y ∷ ys) = go (eqb x y) (r y) refl refl (member-keep x r ys)
+  where
+    go : (a b : Bool) → eqb x y ≡ a → r y ≡ b → member x (keep r ys) ≡ (member x ys && r x)
+        → member x (cond b (y ∷ keep r ys) (keep r ys)) ≡ ((a || member x ys) && r x)
+    go true true p q tail = rw (p, eqb-true x y p) (sym q)
+    go true false p q tail = rw (tail, eqb-true x y p, q) (and-false (member y ys))
+    go false true p q tail = rw p tail
+    go false false p q tail = tail
+
+pub first-unique : (n : ℕ) (r : ℕ → Bool) (i j : ℕ) → First n r i → First n r j → i ≡ j
+first-unique n r i j a b = go (decLt i j) (decLt j i)
+  where
+    go : Dec (i < j) → Dec (j < i) → i ≡ j
+    go (yes l) d = cc (b .none-before i l)
+    go (no k) (yes l) = cc (a .none-before j l)
+    go (no k) (no l) = omega arith

@@ -1,0 +1,29 @@
+-- Single bits of a number, and the number that has given bits.
+use Prim.Native.Nat.{ℕ, zero, suc, _+_, _*_, _/_, _%_, _^_}
+use mathlib.Core.Bool.{Bool, cond}
+use mathlib.Core.List.{List, [], _∷_}
+use lib.Dec.{eqb}
+use lib.Bits.{bitOr, bitXor}
+use Rattle.words.specs.Rules.{count}
+
+-- Bit i of n; bit 0 is worth 1.
+unfoldable pub bit : ℕ → ℕ → Bool
+bit n i = eqb (n / 2 ^ i % 2) 1
+
+-- n with bit i set.
+unfoldable pub setBit : ℕ → ℕ → ℕ
+setBit n i = bitOr n (2 ^ i)
+
+-- n with bit i cleared: set, and then taken away.
+unfoldable pub clearBit : ℕ → ℕ → ℕ
+clearBit n i = bitXor (bitOr n (2 ^ i)) (2 ^ i)
+
+-- The number whose bit i is r i for each i below n, with no bit from n on.
+unfoldable pub word : ℕ → (ℕ → Bool) → ℕ
+word zero r = 0
+word (suc n) r = cond (r 0) 1 0 + 2 * word n (λ i. r (suc i))
+
+-- The ones in some words of 64 bits.
+unfoldable pub totalOnes : List ℕ → ℕ
+totalOnes [] = 0
+totalOnes (w ∷ ws) = count 64 (bit w) + totalOnes ws

@@ -1,7 +1,8 @@
 -- Addresses, sets and offsets, and where the bit of a row and a set stands.
 use Prim.Native.Nat.{ℕ, _+_, _*_, _/_, _%_, _<_, _≤_}
 use mathlib.Core.Path.{_≡_, sym}
-use native.Mathlib.Nat.{mod-lt, mul-comm, mul-le-mul-left, div-add-mod, div-lt-iff-lt-mul, div-div-eq-div-mul}
+use mathlib.Core.Logic.{_⊎_, inl, inr}
+use native.Mathlib.Nat.{le-of-suc-le-suc, lt-of-not-le, eq-or-lt-of-le, mod-lt, mul-comm, mul-le-mul-left, div-add-mod, div-lt-iff-lt-mul, div-div-eq-div-mul}
 use native.Mathlib.Omega.{arith}
 use lib.Arith.{digits-lt, digits-div, digits-mod}
 use Rattle.geometry.specs.declared.Geometry.{Geometry}
@@ -31,6 +32,18 @@ module _ (g : Geometry) (f : Facts g) where
 
   pub offset-of : (s o : ℕ) → o < g .«set_width» → offsetOf g (addressOf g s o) ≡ o
   offset-of s o h = rw mul-comm (digits-mod s h)
+
+  -- an address below that of s and o lies in an earlier set, or in s at an earlier offset
+  pub below-address : (a s o : ℕ) → o < g .«set_width» → a < addressOf g s o → (setOf g a < s) ⊎ ((setOf g a ≡ s) × (offsetOf g a < o))
+  below-address a s o ho h = go (eq-or-lt-of-le (le-of-suc-le-suc (div-lt-iff-lt-mul (f .set-pos) .1 (omega arith))))
+    where
+      go : (setOf g a ≡ s) ⊎ (setOf g a < s) → (setOf g a < s) ⊎ ((setOf g a ≡ s) × (offsetOf g a < o))
+      go (inl e) = inr (e, omega (arith, rw e at (address-of a)))
+      go (inr l) = inl l
+
+  -- no address from the depth on lies in a set
+  pub set-past : (a : ℕ) → g .depth ≤ a → sets g ≤ setOf g a
+  set-past a h = le-of-suc-le-suc (lt-of-not-le (λ l. omega (arith, address-lt (setOf g a) (offsetOf g a) l (offset-lt a), address-of a)))
 
   -- document 01's w of an address: the word of its set
   pub word-of : (a : ℕ) → a / (64 * g .«set_width») ≡ setOf g a / 64

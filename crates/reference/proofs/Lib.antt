@@ -1,1 +1,9 @@
+pub mod Cells
+pub mod Replaced
+pub mod Covering
+pub mod Indicated
+pub mod Mirrored
+pub mod Image
+pub mod Lowest
+pub mod Stopped
 pub mod Cases

@@ -40,3 +40,12 @@ pub data Answer : Type 0 where
   at : (address words compared : ℕ) → Answer
   none : (words compared : ℕ) → Answer
   matched : (matches : List ℕ) (hits : ℕ) → Answer
+
+-- The match word that a call leaves: the one in its answer, and the lent one where the answer has none.
+unfoldable pub left : Answer → (lent : List ℕ) → List ℕ
+left (refused n) m = m
+left cleared m = m
+left (held e) m = m
+left (at a w c) m = m
+left (none w c) m = m
+left (matched ws n) m = ws

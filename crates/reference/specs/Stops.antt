@@ -1,7 +1,8 @@
 -- Document 01's table "Where a call stops": its rows are tested from the top, and the first that applies is given.
 use Prim.Native.Nat.{ℕ}
 use mathlib.Core.Bool.{Bool, true, false}
-use mathlib.Core.List.{List, [], _∷_}
+use mathlib.Core.List.{List, [], _∷_, _++_}
+use mathlib.Core.Path.{_≡_}
 use mathlib.Core.Option.{Option, none, some}
 use lib.Dec.{leb}
 use Rattle.geometry.specs.declared.Geometry.{Geometry}
@@ -16,6 +17,18 @@ unfoldable pub firstStop : List Stop → Option ℕ
 firstStop [] = none
 firstStop ((n given-when true) ∷ rest) = some n
 firstStop ((n given-when false) ∷ rest) = firstStop rest
+
+-- No row applies.
+abbrev pub Passed : List Stop → Type 0
+Passed [] = Unit
+Passed ((n given-when test) ∷ rest) = (test ≡ false) × Passed rest
+
+-- The row of number n applies and no row above it does.
+pub record FirstApplies (rows : List Stop) (n : ℕ) : Type 0 where
+  pub above : List Stop
+  pub below : List Stop
+  pub split : rows ≡ above ++ (n given-when true ∷ below)
+  pub passed : Passed above
 
 -- "address is D or more"
 unfoldable pub badAddress : Geometry → ℕ → Bool

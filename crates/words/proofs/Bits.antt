@@ -8,6 +8,7 @@ use lib.Dec.{eqb, ltb, leb·zero, leb·suc-zero, leb·suc-suc, eqb·zero-suc, eq
 use lib.Pow.{pow-mono, pow-pos}
 use lib.Bits.{bitAnd, bitOr, bitXor, and-shr, or-shr, xor-shr, and-mod, or-mod, xor-mod}
 use lib.Count.{trailingZeros, under}
+use borrow.Author.Tests.{ltb-true, ltb-false}
 use Rattle.words.specs.Rules.{count, tabulate, First}
 use Rattle.words.specs.Bits.{bit, setBit, clearBit, word, totalOnes}
 use Rattle.words.proofs.Rules.{count-add, count-ext}
@@ -144,6 +145,14 @@ pub word-lt : (n : ℕ) (r : ℕ → Bool) → word n r < 2 ^ n
 unfolding word
 word-lt zero r = omega arith
 word-lt (suc n) r = omega (arith, pow-suc 2 n, flag-lt (r 0), word-lt n (λ i. r (suc i)))
+
+-- every bit of a word that is made by a rule
+pub bit-word-all : (n : ℕ) (r : ℕ → Bool) (i : ℕ) → bit (word n r) i ≡ (ltb i n && r i)
+bit-word-all n r i = go (ltb i n) refl
+  where
+    go : (b : Bool) → ltb i n ≡ b → bit (word n r) i ≡ (b && r i)
+    go true e = bit-word n r i (ltb-true i n e)
+    go false e = bit-out n (word n r) i (word-lt n r) (ltb-false i n e)
 
 -- the lowest set bit, of a number that has one
 pub trailing-lowest : (n a : ℕ) → a < 2 ^ n → 0 < a → First n (bit a) (trailingZeros n a)

@@ -4,7 +4,8 @@ use mathlib.Core.Logic.{_⊎_, inl, inr}
 use mathlib.Core.Path.{_≡_, refl, sym, ap, _∙_}
 use mathlib.Core.Bool.{Bool, true, false, cond, not, _&&_, _||_, false≢true, or-true, or-false, or-assoc, and-false}
 use mathlib.Core.List.{List, [], _∷_}
-use native.Mathlib.Nat.{add-zero, add-suc, add-assoc, le-of-suc-le-suc, eq-or-lt-of-le}
+use native.Mathlib.Numerals.{one-add}
+use native.Mathlib.Nat.{zero-add, add-zero, add-suc, add-assoc, le-of-suc-le-suc, eq-or-lt-of-le}
 use native.Mathlib.Decide.{decLt}
 use native.Mathlib.Omega.{arith}
 use lib.Dec.{eqb}
@@ -81,6 +82,10 @@ pub count-add : (n m : ℕ) (r : ℕ → Bool) → count (n + m) r ≡ count n r
 unfolding count
 count-add n zero r = simp add-zero
 count-add n (suc m) r = rw (add-suc, count-add n m r, add-assoc)
+
+-- the lowest place apart from the others
+pub count-front : (n : ℕ) (r : ℕ → Bool) → count (suc n) r ≡ cond (r 0) 1 0 + count n (λ i. r (suc i))
+count-front n r = rw (← one-add n) (count-add 1 n r ∙ unfold count in simp (zero-add, one-add))
 
 pub length-tabulate : (n : ℕ) (f : ℕ → ℕ) → length (tabulate n f) ≡ n
 unfolding tabulate

@@ -61,9 +61,16 @@ nonzero f j = not (eqb (f j) 0)
 row-zero : (f : ℕ → ℕ) (i : ℕ) → nonzero f (i / 64) ≡ false → rowBit f i ≡ false
 row-zero f i h = rw (eqb-true (f (i / 64)) 0 (not-false _ h)) (bit-zero (i % 64))
 
+word-first : (f : ℕ → ℕ) → ((j : ℕ) → f j < 2 ^ 64) → (j : ℕ) → nonzero f j ≡ true → First 64 (bit (f j)) (trailingZeros 64 (f j))
+word-first f w j h = trailing-lowest 64 (f j) (w j) (omega (arith, eqb-false (f j) 0 (not-true _ h)))
+
+-- The lowest set bit of a word that is not zero stands in that word of the row.
+pub row-word : (f : ℕ → ℕ) → ((j : ℕ) → f j < 2 ^ 64) → (j : ℕ) → nonzero f j ≡ true → (64 * j + trailingZeros 64 (f j)) / 64 ≡ j
+row-word f w j h = omega (arith, word-first f w j h .within)
+
 -- In a row of n words the lowest set bit of the first word that is not zero is the first set bit of the row.
 pub row-first : (n : ℕ) (f : ℕ → ℕ) → ((j : ℕ) → f j < 2 ^ 64) → (j : ℕ) → First n (nonzero f) j → First (64 * n) (rowBit f) (64 * j + trailingZeros 64 (f j))
-row-first n f w j h = lowest (trailingZeros 64 (f j)) (trailing-lowest 64 (f j) (w j) (omega (arith, eqb-false (f j) 0 (not-true _ (h .here)))))
+row-first n f w j h = lowest (trailingZeros 64 (f j)) (word-first f w j (h .here))
   where
     before : (i z : ℕ) → First 64 (bit (f j)) z → i < 64 * j + z → (i / 64 ≡ j) ⊎ (i / 64 < j) → rowBit f i ≡ false
     before i z low l (inl e) = rw e (low .none-before (i % 64) (omega arith))

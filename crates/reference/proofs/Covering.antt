@@ -1,0 +1,52 @@
+-- An entry that covers every row of a pattern holds it: the stages of a pattern determine it.
+use Prim.Native.Nat.{ℕ, _<_}
+use mathlib.Core.Path.{_≡_, refl, sym, ap, _∙_}
+use mathlib.Core.Bool.{Bool, true, false, cond, false≢true}
+use lib.Dec.{eqb, ltb}
+use borrow.Author.Tests.{ltb-true, ltb-false, lt-ltb, eqb-true, eq-eqb, ne-eqb}
+use native.Mathlib.Omega.{arith}
+use Rattle.words.specs.Rules.{any, member}
+use Rattle.words.proofs.Rules.{any-witness, any-true, member-tabulate}
+use Rattle.geometry.specs.declared.Geometry.{Geometry}
+use Rattle.geometry.specs.Sizes.{patterns}
+use Rattle.geometry.specs.Stages.{stages, stage, rowOf, rowsOf}
+use Rattle.geometry.proofs.Facts.{Facts}
+use Rattle.geometry.proofs.Stages.{stages-pos, stages-determine, row-value}
+use Rattle.reference.specs.Entry.{Entry, empty, pattern, entryOf, holds}
+use Rattle.reference.specs.Image.{entryRows, covers}
+
+module _ (g : Geometry) (f : Facts g) (key : ℕ) (small : key < patterns g) where
+  -- a word of the store holds the key exactly when it is the key
+  pub holds-word : (w : ℕ) → holds (entryOf g w) key ≡ eqb w key
+  unfolding holds entryOf
+  holds-word w = go (ltb w (patterns g)) refl
+    where
+      go : (b : Bool) → ltb w (patterns g) ≡ b → holds (cond b (pattern w) empty) key ≡ eqb w key
+      go true e = refl
+      go false e = sym (ne-eqb w key (λ q. omega (arith, ltb-false w (patterns g) e)))
+
+  row-member : (k : ℕ) → k < stages g → member (rowOf g key k) (rowsOf g key) ≡ true
+  unfolding rowsOf
+  row-member k h = member-tabulate (rowOf g key k) (stages g) (rowOf g key) ∙ any-true (stages g) _ k h (eq-eqb (rowOf g key k) (rowOf g key k) refl)
+
+  -- a pattern among whose rows are all of the key's is the key
+  rows-same : (p : ℕ) → p < patterns g → ((k : ℕ) → k < stages g → member (rowOf g key k) (rowsOf g p) ≡ true) → p ≡ key
+  unfolding rowsOf
+  rows-same p h shared = stages-determine g f p key h small (λ k l. same k l)
+    where
+      same : (k : ℕ) → k < stages g → stage g k p ≡ stage g k key
+      same k l =
+          let w = any-witness (stages g) (λ i. eqb (rowOf g key k) (rowOf g p i)) (sym (member-tabulate (rowOf g key k) (stages g) (rowOf g p)) ∙ shared k l) in
+          sym (row-value g f key p k (w .0) l (w .1) (eqb-true (rowOf g key k) (rowOf g p (w .0)) (w .2)))
+
+  pub covers-key : (w : ℕ) → ((r : ℕ) → member r (rowsOf g key) ≡ true → covers g (entryOf g w) r ≡ true) → eqb w key ≡ true
+  unfolding covers entryOf entryRows member
+  covers-key w all = go (ltb w (patterns g)) refl (λ k h. all (rowOf g key k) (row-member k h))
+    where
+      go : (b : Bool) → ltb w (patterns g) ≡ b → ((k : ℕ) → k < stages g → member (rowOf g key k) (entryRows g (cond b (pattern w) empty)) ≡ true) → eqb w key ≡ true
+      go true e rows = eq-eqb w key (rows-same w (ltb-true w (patterns g) e) rows)
+      go false e rows = absurd (false≢true (rows 0 (stages-pos g f)))
+
+  pub key-covers : (w r : ℕ) → eqb w key ≡ true → member r (rowsOf g key) ≡ true → covers g (entryOf g w) r ≡ true
+  unfolding covers entryOf entryRows
+  key-covers w r e h = rw (eqb-true w key e, lt-ltb key (patterns g) small) h

@@ -1,0 +1,83 @@
+-- Statement 4: every bit of every word, and every entry, after another entry came to an address of any tables.
+use Prim.Native.Nat.{ℕ, _<_}
+use mathlib.Core.Path.{_≡_, refl, sym, ap, _∙_}
+use mathlib.Core.Bool.{Bool, true, false, cond, not, _&&_, _||_, and-eq-true-iff, false≢true}
+use mathlib.Core.List.{List}
+use lib.Dec.{eqb}
+use lib.ListN.{length, getD, set, length-set}
+use lib.Seq.{getD-set-same, getD-set-other}
+use borrow.Author.Tests.{eqb-true}
+use Rattle.words.specs.Rules.{any, member, keep}
+use Rattle.words.specs.Bits.{setBit}
+use Rattle.words.proofs.Rules.{any-witness, member-tabulate, member-keep}
+use Rattle.geometry.specs.declared.Geometry.{Geometry}
+use Rattle.geometry.specs.Sizes.{sets, rowWords, setOf}
+use Rattle.geometry.specs.Stages.{stages, rowOf, rowsOf, rows, indicatorWords}
+use Rattle.geometry.proofs.Facts.{Facts}
+use Rattle.geometry.proofs.Places.{set-lt}
+use Rattle.geometry.proofs.Stages.{row-lt}
+use Rattle.reference.specs.Entry.{Entry, empty, pattern, wordOf}
+use Rattle.reference.specs.Tables.{Tables, storeWord, storeEntry, cell, belongs}
+use Rattle.reference.specs.Image.{entryRows, covers}
+use Rattle.reference.specs.Update.{change, othersCover, released, replaced}
+use Rattle.reference.proofs.Cells.{length-change, set-cell, clear-cell}
+
+-- what an entry covers is a row of the indicators
+pub covers-lt : (g : Geometry) → Facts g → (e : Entry) (r : ℕ) → covers g e r ≡ true → r < rows g
+unfolding covers entryRows member rowsOf
+covers-lt g f empty r h = absurd (false≢true h)
+covers-lt g f (pattern p) r h =
+    let w = any-witness (stages g) (λ k. eqb r (rowOf g p k)) (sym (member-tabulate r (stages g) (rowOf g p)) ∙ h) in
+    rw (eqb-true r (rowOf g p (w .0)) (w .2)) (row-lt g f p (w .0) (w .1))
+
+-- The bit of row r in the set of a: set where the new entry covers r; else cleared where the old one covers r and no
+-- other address of the set does; else as it was. Every other bit, padding bits too, is as it was.
+pub record EveryBit (g : Geometry) (t u : Tables) (a : ℕ) (e : Entry) : Type 0 where
+  pub bits : (r j b : ℕ) → j < rowWords g
+      → cell g (u .indicators) r j b
+      ≡ cond (belongs (setOf g a) j b)
+      (covers g e r || (not (covers g (storeEntry g t a) r && not (othersCover g t a r)) && cell g (t .indicators) r j b))
+      (cell g (t .indicators) r j b)
+  pub words : length (u .indicators) ≡ length (t .indicators)
+  pub entry : storeWord u a ≡ wordOf e
+  pub others : (b : ℕ) → (b ≡ a → ⊥) → storeWord u b ≡ storeWord t b
+  pub entries : length (u .store) ≡ length (t .store)
+
+pub replaced-bits : (g : Geometry) → Facts g → (t : Tables) (a : ℕ) (e : Entry) → a < g .depth → length (t .store) ≡ g .depth → length (t .indicators) ≡ indicatorWords g
+    → EveryBit g t (replaced g t a e) a e
+unfolding replaced covers released
+replaced-bits g f t a e ha stored indicated = record {
+  bits = λ r j b hj.
+      clear-cell g f s inside (released g t a (entryRows g e)) _ given-up-lt (length-change setBit g s (entryRows g e) _ ∙ indicated) r j b hj
+      ∙ ap (λ x. not (member r (released g t a (entryRows g e)) && belongs s j b) && x) (set-cell g f s inside (entryRows g e) (t .indicators) (covers-lt g f e) indicated r j b hj)
+      ∙ ap (λ x. not (x && belongs s j b) && ((member r (entryRows g e) && belongs s j b) || cell g (t .indicators) r j b)) (given-up r)
+      ∙ formula (member r (entryRows g e)) (member r (entryRows g (storeEntry g t a))) (othersCover g t a r) (belongs s j b) (cell g (t .indicators) r j b);
+  words = length-change _ g s _ _ ∙ length-change setBit g s _ _;
+  entry = getD-set-same (t .store) a (wordOf e) _ (rw stored ha);
+  others = λ b ne. getD-set-other (t .store) a b (wordOf e) _ ne;
+  entries = length-set (t .store) a (wordOf e);
+}
+  where
+    s : ℕ
+    s = setOf g a
+
+    inside : s < sets g
+    inside = set-lt g f a ha
+
+    given-up : (r : ℕ) → member r (released g t a (entryRows g e)) ≡ (member r (entryRows g (storeEntry g t a)) && (not (member r (entryRows g e)) && not (othersCover g t a r)))
+    given-up r = member-keep r (λ r. not (member r (entryRows g e)) && not (othersCover g t a r)) (entryRows g (storeEntry g t a))
+
+    given-up-lt : (r : ℕ) → member r (released g t a (entryRows g e)) ≡ true → r < rows g
+    given-up-lt r h = covers-lt g f (storeEntry g t a) r (and-eq-true-iff _ _ .0 (sym (given-up r) ∙ h) .0)
+
+    formula : (P Q O h c : Bool) → not ((Q && (not P && not O)) && h) && ((P && h) || c) ≡ cond h (P || (not (Q && not O) && c)) c
+    formula true true O true c = refl
+    formula true true O false c = refl
+    formula true false O true c = refl
+    formula true false O false c = refl
+    formula false true true true c = refl
+    formula false true true false c = refl
+    formula false true false true c = refl
+    formula false true false false c = refl
+    formula false false O true c = refl
+    formula false false O false c = refl

@@ -1,0 +1,115 @@
+-- Statement 5: each number is given exactly when its row of the table applies and no row above it does, and a refused
+-- call leaves both tables and the match word as they were. On any tables.
+use Prim.Native.Nat.{ℕ}
+use mathlib.Core.Path.{_≡_, refl, sym, ap, _∙_}
+use mathlib.Core.Logic.{_↔_}
+use mathlib.Core.Bool.{Bool, true, false, true≢false}
+use mathlib.Core.List.{List, [], _∷_, _++_}
+use mathlib.Core.Option as Option
+use mathlib.Core.Option.{Option}
+use native.Mathlib.Omega.{arith}
+use lib.Dec.{eqb}
+use Rattle.words.specs.Seek.{Sought, found, missed}
+use Rattle.geometry.specs.declared.Geometry.{Geometry}
+use Rattle.geometry.specs.Valid.{segmented}
+use Rattle.reference.specs.Calls.{Call, clear, write, erase, read, firstMatch, allMatch, lent, left, Answer, refused, cleared, held, at, none, matched}
+use Rattle.reference.specs.Stops.{Stop, _given-when_, firstStop, Passed, FirstApplies}
+use Rattle.reference.specs.Tables.{Tables}
+use Rattle.reference.specs.Search.{seekWord, seekEntry, lowestSet, falseSet, firstIsFalse, answerIn, firstAnswer}
+use Rattle.reference.specs.Steps.{ownStops, stops, accepted, outcome, step, Outcome}
+
+-- the table is passed exactly when it is passed row by row
+pub passes : (rows : List Stop) → firstStop rows ≡ Option.none → Passed rows
+unfolding firstStop
+passes [] e = tt
+passes ((n given-when true) ∷ rest) e = absurd (let z : _≡_ {A = ℕ} 0 1 = cc in omega arith)
+passes ((n given-when false) ∷ rest) e = (refl, passes rest e)
+
+-- what lies below rows that pass decides
+below-passed : (above rest : List Stop) → Passed above → firstStop (above ++ rest) ≡ firstStop rest
+unfolding firstStop
+below-passed [] rest p = refl
+below-passed ((n given-when true) ∷ above) rest p = absurd (true≢false (p .0))
+below-passed ((n given-when false) ∷ above) rest p = below-passed above rest (p .1)
+
+stop-first : (rows : List Stop) (n : ℕ) → firstStop rows ≡ Option.some n → FirstApplies rows n
+unfolding firstStop
+stop-first [] n e = absurd (let z : _≡_ {A = ℕ} 0 1 = cc in omega arith)
+stop-first ((m given-when true) ∷ rest) n e =
+    let same : m ≡ n = cc in
+    record { above = []; below = rest; split = ap (λ k. k given-when true ∷ rest) same; passed = tt }
+stop-first ((m given-when false) ∷ rest) n e =
+    let f = stop-first rest n e in
+    record { above = m given-when false ∷ f .above; below = f .below; split = ap (λ r. m given-when false ∷ r) (f .split); passed = (refl, f .passed) }
+
+first-stop : (rows : List Stop) (n : ℕ) → FirstApplies rows n → firstStop rows ≡ Option.some n
+unfolding firstStop
+first-stop rows n f = rw (f .split) (below-passed (f .above) (n given-when true ∷ f .below) (f .passed))
+
+-- an accepted first-match gives no number: only a false set would
+set-accepted : (g : Geometry) (t : Tables) (key s w n : ℕ) → falseSet g t key s ≡ false → answerIn g t key s w ≡ refused n → ⊥
+unfolding falseSet answerIn
+set-accepted g t key s w n h e = go (eqb (g .kind) segmented) (seekEntry g t key s) refl refl
+  where
+    go : (b : Bool) (r : Sought) → eqb (g .kind) segmented ≡ b → seekEntry g t key s ≡ r → ⊥
+    go true (found o c) p q = let z : _≡_ {A = ℕ} 0 1 = cc (rw (p, answerIn, q) at e) in omega arith
+    go true (missed c) p q = true≢false (rw (p, falseSet, q) at h)
+    go false r p q = let z : _≡_ {A = ℕ} 0 1 = cc (rw (p, answerIn) at e) in omega arith
+
+first-accepted : (g : Geometry) (t : Tables) (key n : ℕ) → firstIsFalse g t key ≡ false → firstAnswer g t key ≡ refused n → ⊥
+unfolding firstIsFalse firstAnswer
+first-accepted g t key n = go (seekWord g t key)
+  where
+    go : (r : Sought) → elim r as (λ x. Bool) [ found j w ↦ falseSet g t key (lowestSet g t key j) | missed w ↦ false ] ≡ false
+        → elim r as (λ x. Answer) [ found j w ↦ answerIn g t key (lowestSet g t key j) w | missed w ↦ none w 0 ] ≡ refused n → ⊥
+    go (found j w) h e = set-accepted g t key (lowestSet g t key j) w n h e
+    go (missed w) h e = let z : _≡_ {A = ℕ} 0 1 = cc in omega arith
+
+accepted-no-number : (g : Geometry) (t : Tables) (c : Call (List ℕ)) (n : ℕ) → Passed (ownStops g t c) → accepted g t c .answer ≡ refused n → ⊥
+unfolding accepted ownStops
+accepted-no-number g t clear n p e = let z : _≡_ {A = ℕ} 0 1 = cc in omega arith
+accepted-no-number g t (write a q) n p e = let z : _≡_ {A = ℕ} 0 1 = cc in omega arith
+accepted-no-number g t (erase a) n p e = let z : _≡_ {A = ℕ} 0 1 = cc in omega arith
+accepted-no-number g t (read a) n p e = let z : _≡_ {A = ℕ} 0 1 = cc in omega arith
+accepted-no-number g t (firstMatch key) n p e = first-accepted g t key n (p .1 .0) e
+accepted-no-number g t (allMatch key m) n p e = let z : _≡_ {A = ℕ} 0 1 = cc in omega arith
+
+pub given-exactly : (g : Geometry) (t : Tables) (c : Call (List ℕ)) (n : ℕ) → (step g t c .answer ≡ refused n) ↔ FirstApplies (stops g t c) n
+unfolding step outcome stops
+given-exactly g t c n = (λ e. stop-first (stops g t c) n (go (firstStop (stops g t c)) refl e), λ f. rw (first-stop (stops g t c) n f))
+  where
+    go : (r : Option ℕ) → firstStop (stops g t c) ≡ r → outcome g t c r .answer ≡ refused n → r ≡ Option.some n
+    go Option.none s e = absurd (accepted-no-number g t c n (passes (stops g t c) s .1 .1) e)
+    go (Option.some m) s e = cc
+
+-- a first-match answers with no match word
+first-left : (g : Geometry) (t : Tables) (key : ℕ) (m : List ℕ) → left (firstAnswer g t key) m ≡ m
+unfolding firstAnswer answerIn left
+first-left g t key m = go (seekWord g t key)
+  where
+    in-set : (s w : ℕ) (b : Bool) (r : Sought) → eqb (g .kind) segmented ≡ b → seekEntry g t key s ≡ r → left (answerIn g t key s w) m ≡ m
+    in-set s w true (found o c) p q = rw (p, answerIn, q)
+    in-set s w true (missed c) p q = rw (p, answerIn, q)
+    in-set s w false r p q = rw (p, answerIn)
+
+    go : (r : Sought) → left (elim r as (λ x. Answer) [ found j w ↦ answerIn g t key (lowestSet g t key j) w | missed w ↦ none w 0 ]) m ≡ m
+    go (found j w) = in-set (lowestSet g t key j) w (eqb (g .kind) segmented) (seekEntry g t key (lowestSet g t key j)) refl refl
+    go (missed w) = refl
+
+-- the match word after any call is the one in its answer, or as it was lent
+pub match-word-left : (g : Geometry) (t : Tables) (c : Call (List ℕ)) → step g t c .matches ≡ left (step g t c .answer) (lent c)
+unfolding step outcome accepted left lent
+match-word-left g t c = go c (firstStop (stops g t c))
+  where
+    go : (c : Call (List ℕ)) (r : Option ℕ) → outcome g t c r .matches ≡ left (outcome g t c r .answer) (lent c)
+    go c (Option.some n) = refl
+    go clear Option.none = refl
+    go (write a p) Option.none = refl
+    go (erase a) Option.none = refl
+    go (read a) Option.none = refl
+    go (firstMatch key) Option.none = sym (first-left g t key [])
+    go (allMatch key m) Option.none = refl
+
+pub refused-keeps : (g : Geometry) (t : Tables) (c : Call (List ℕ)) (n : ℕ) → step g t c .answer ≡ refused n → (step g t c .tables ≡ t) × (step g t c .matches ≡ lent c)
+unfolding step outcome left
+refused-keeps g t c n e = let stopped = first-stop (stops g t c) n (given-exactly g t c n .0 e) in (rw stopped, rw stopped)

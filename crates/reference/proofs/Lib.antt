@@ -6,4 +6,7 @@ pub mod Mirrored
 pub mod Image
 pub mod Lowest
 pub mod Stopped
+pub mod Emptied
+pub mod Agreement
+pub mod History
 pub mod Cases

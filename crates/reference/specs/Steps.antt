@@ -54,13 +54,13 @@ pub record Outcome : Type 0 where
   pub tables : Tables
   pub matches : List ℕ
 
+-- "Clear makes every entry empty and every indicator word 0."
+unfoldable pub clearTables : Geometry → Tables
+clearTables g = record { store = replicate (g .depth) emptyWord; indicators = replicate (indicatorWords g) 0 }
+
 -- The calls, where nothing stops them.
 unfoldable pub accepted : Geometry → Tables → Call (List ℕ) → Outcome
-accepted g t clear = record {
-  answer = cleared;
-  tables = record { store = replicate (g .depth) emptyWord; indicators = replicate (indicatorWords g) 0 };
-  matches = [];
-}
+accepted g t clear = record { answer = cleared; tables = clearTables g; matches = [] }
 accepted g t (write a p) = record { answer = held (storeEntry g t a); tables = replaced g t a (pattern p); matches = [] }
 accepted g t (erase a) = record { answer = held (storeEntry g t a); tables = replaced g t a empty; matches = [] }
 accepted g t (read a) = record { answer = held (storeEntry g t a); tables = t; matches = [] }

@@ -1,0 +1,170 @@
+-- One call on the tables of an array agrees with the same call on the array: answer, tables and refusal number.
+use Prim.Native.Nat.{ℕ, zero, suc, _+_, _*_, _<_}
+use mathlib.Core.Path.{_≡_, refl, sym, ap, ap₂, _∙_}
+use mathlib.Core.Logic.{_⊎_, inl, inr}
+use mathlib.Core.Bool.{Bool, true, false, cond, not, _&&_, _||_, and-false, or-true, false≢true}
+use mathlib.Core.List.{List, [], _∷_, _++_, map}
+use mathlib.Core.Option as Option
+use mathlib.Core.Option.{Option}
+use native.Mathlib.Nat.{zero-add}
+use native.Mathlib.Omega.{arith}
+use lib.Dec.{eqb, ltb, leb}
+use lib.ListN.{length, getD, set, replicate, length-set, length-replicate, getD-replicate, List·getD-eq-default}
+use lib.Seq.{getD-set-same, getD-set-other}
+use borrow.Author.Tests.{ltb-true, ltb-false, leb-false, lt-ltb, eqb-true, eqb-false, eq-eqb}
+use Rattle.words.specs.Rules.{any, count, member, tabulate, First, Nowhere}
+use Rattle.words.specs.Bits.{bit, word, totalOnes}
+use Rattle.words.proofs.Rules.{any-false, count-ext, list-tabulate, tabulate-ext, first-unique}
+use Rattle.words.proofs.Bits.{bits-equal, bit-zero, bit-word-all, word-ext}
+use Rattle.geometry.specs.declared.Geometry.{Geometry}
+use Rattle.geometry.specs.Valid.{valid}
+use Rattle.geometry.specs.Sizes.{patterns, rowWords, matchWords}
+use Rattle.geometry.specs.Stages.{indicatorWords}
+use Rattle.geometry.proofs.Facts.{Facts, facts}
+use Rattle.reference.specs.Entry.{Entry, empty, pattern, emptyWord, wordOf, holds}
+use Rattle.reference.specs.Calls.{Call, clear, write, erase, read, firstMatch, allMatch, shape, Answer, held, matched}
+use Rattle.reference.specs.Stops.{Stop, _given-when_, firstStop, Passed, badAddress, badPattern}
+use Rattle.reference.specs.Array.{Array, emptied, entryAt, lowest, counted, matchesOf, hits, arrayStops, ArrayOutcome, arrayAccepted, arrayOutcome, arrayStep}
+use Rattle.reference.specs.Tables.{Tables, storeWord, storeEntry}
+use Rattle.reference.specs.Image.{covers, entryRows, covered, image, tablesOf}
+use Rattle.reference.specs.Search.{firstAnswer, takenWords}
+use Rattle.reference.specs.Steps.{badLengths, badMatches, badEntry, ownStops, stops, Outcome, accepted, outcome, step}
+use Rattle.reference.proofs.Covering.{holds-word}
+use Rattle.reference.proofs.Mirrored.{FirstIs, first-is, first-not-false, none-false, all-are, all-counted}
+use Rattle.reference.proofs.Image.{Sound, store-word, store-entry, store-long, indicators-long, image-mirrors, replaced-image}
+use Rattle.reference.proofs.Lowest.{holding, lowest-is, hits-are}
+use Rattle.reference.proofs.Stopped.{passes}
+use Rattle.reference.proofs.Emptied.{emptied-sound, cleared-tables}
+
+-- a last row that does not apply
+last-passes : (rows : List Stop) (n : ℕ) → firstStop (rows ++ (n given-when false ∷ [])) ≡ firstStop rows
+unfolding firstStop
+last-passes [] n = refl
+last-passes ((m given-when true) ∷ rows) n = refl
+last-passes ((m given-when false) ∷ rows) n = last-passes rows n
+
+-- a last row that does not apply where the pattern's row does not
+key-passes : (g : Geometry) (key n : ℕ) (test : Bool) → (key < patterns g → test ≡ false) → (rows : List Stop)
+    → firstStop (rows ++ (4 given-when badPattern g key ∷ n given-when test ∷ [])) ≡ firstStop (rows ++ (4 given-when badPattern g key ∷ []))
+unfolding firstStop badPattern
+key-passes g key n test h [] = go (leb (patterns g) key) refl
+  where
+    go : (b : Bool) → leb (patterns g) key ≡ b → firstStop (4 given-when b ∷ n given-when test ∷ []) ≡ firstStop (4 given-when b ∷ [])
+    go true e = refl
+    go false e = rw (h (leb-false (patterns g) key e))
+key-passes g key n test h ((m given-when true) ∷ rows) = refl
+key-passes g key n test h ((m given-when false) ∷ rows) = key-passes g key n test h rows
+
+-- What a call leaves on the tables of an array, and on the array.
+pub record Agrees (g : Geometry) (o : Outcome) (p : ArrayOutcome) : Type 0 where
+  pub answer : o .answer ≡ p .answer
+  pub tables : o .tables ≡ tablesOf g (p .array)
+  pub sound : Sound g (p .array)
+
+module _ (g : Geometry) (ok : valid g ≡ true) (es : Array) (sound : Sound g es) where
+  abbrev f : Facts g
+  f = facts g ok
+
+  -- the store tells what the array holds
+  held-is : (key : ℕ) → key < patterns g → (a : ℕ) → eqb (storeWord (tablesOf g es) a) key ≡ holding es key a
+  held-is key small a = sym (holds-word g f key small (storeWord (tablesOf g es) a)) ∙ ap (λ e. holds e key) (store-entry g f es sound a)
+
+  lengths-pass : badLengths g (tablesOf g es) ≡ false
+  unfolding badLengths
+  lengths-pass = rw (eq-eqb _ _ (store-long g f es sound), eq-eqb _ _ (indicators-long g f es sound))
+
+  entry-passes : (a : ℕ) → badEntry g (tablesOf g es) a ≡ false
+  unfolding badEntry wordOf
+  entry-passes a = rw (store-word g f es sound a) (go (entryAt es a) (sound .fits a))
+    where
+      go : (e : Entry) → ((p : ℕ) → e ≡ pattern p → p < patterns g) → not (eqb (wordOf e) emptyWord || ltb (wordOf e) (patterns g)) ≡ false
+      go empty h = refl
+      go (pattern p) h = rw (lt-ltb p (patterns g) (h p refl), or-true (eqb p emptyWord))
+
+  same-stops : (c : Call (List ℕ)) → firstStop (stops g (tablesOf g es) c) ≡ firstStop (arrayStops g (shape c))
+  unfolding stops firstStop ownStops arrayStops shape badMatches
+  same-stops c = rw (ok, lengths-pass) (go c)
+    where
+      go : (c : Call (List ℕ)) → firstStop (2 given-when badMatches g c ∷ ownStops g (tablesOf g es) c) ≡ firstStop (arrayStops g (shape c))
+      go clear = refl
+      go (write a p) = rw (entry-passes a) (last-passes (3 given-when badAddress g a ∷ 4 given-when badPattern g p ∷ []) 5)
+      go (erase a) = rw (entry-passes a) (last-passes (3 given-when badAddress g a ∷ []) 5)
+      go (read a) = rw (entry-passes a) (last-passes (3 given-when badAddress g a ∷ []) 5)
+      go (firstMatch key) = key-passes g key 6 _ (first-not-false g f (tablesOf g es) (image-mirrors g f es sound) key) []
+      go (allMatch key m) = key-passes g key 6 _ (none-false g f (tablesOf g es) (image-mirrors g f es sound) key) (2 given-when not (eqb (length m) (matchWords g)) ∷ [])
+
+  -- ---- the searches agree
+
+  first-agrees : (key : ℕ) → key < patterns g → firstAnswer g (tablesOf g es) key ≡ counted g (lowest key 0 es)
+  unfolding counted
+  first-agrees key small = go (first-is g f (tablesOf g es) (image-mirrors g f es sound) key small) (lowest-is key 0 es)
+    where
+      there : (i : ℕ) → First (length es) (holding es key) i → First (g .depth) (λ a. eqb (storeWord (tablesOf g es) a) key) i
+      there i h = record {
+        within = omega (arith, h .within, sound .long);
+        here = held-is key small i ∙ h .here;
+        none-before = λ j l. held-is key small j ∙ h .none-before j l;
+      }
+
+      go : FirstIs g f (tablesOf g es) (image-mirrors g f es sound) key small (firstAnswer g (tablesOf g es) key)
+          → ((i : ℕ) × (lowest key 0 es ≡ Option.some (0 + i)) × First (length es) (holding es key) i) ⊎ ((lowest key 0 es ≡ Option.none) × Nowhere (length es) (holding es key))
+          → firstAnswer g (tablesOf g es) key ≡ counted g (lowest key 0 es)
+      go (inl (a, first, answer)) (inl (i, low, lowest-first)) = rw (low, zero-add i, ← first-unique (g .depth) _ a i first (there i lowest-first)) answer
+      go (inl (a, first, answer)) (inr (low, nowhere)) =
+          absurd (false≢true (sym (nowhere a (omega (arith, first .within, sound .long))) ∙ sym (held-is key small a) ∙ first .here))
+      go (inr (nowhere, answer)) (inl (i, low, first)) = absurd (false≢true (sym (nowhere i (there i first .within)) ∙ there i first .here))
+      go (inr (nowhere, answer)) (inr (low, _)) = rw low answer
+
+  matches-agree : (key : ℕ) → key < patterns g → takenWords g (tablesOf g es) key ≡ matchesOf g es key
+  unfolding matchesOf
+  matches-agree key small =
+      all-are g f (tablesOf g es) (image-mirrors g f es sound) key small
+      ∙ tabulate-ext (matchWords g) _ _ (λ j l. word-ext 64 _ _ (λ b m. held-is key small (64 * j + b)))
+
+  hits-agree : (key : ℕ) → key < patterns g → totalOnes (takenWords g (tablesOf g es) key) ≡ hits key es
+  hits-agree key small =
+      all-counted g f (tablesOf g es) (image-mirrors g f es sound) key small
+      ∙ count-ext (g .depth) _ (holding es key) (λ a l. held-is key small a)
+      ∙ ap (λ n. count n (holding es key)) (sym (sound .long)) ∙ sym (hits-are key es)
+
+  -- ---- every call agrees
+
+  -- another entry of the geometry keeps the array one of it
+  set-sound : (a : ℕ) → a < g .depth → (e : Entry) → ((p : ℕ) → e ≡ pattern p → p < patterns g) → Sound g (set es a e)
+  set-sound a inside e h = record { long = length-set es a e ∙ sound .long; fits = λ b p. go b p (eqb b a) refl }
+    where
+      go : (b p : ℕ) (c : Bool) → eqb b a ≡ c → entryAt (set es a e) b ≡ pattern p → p < patterns g
+      go b p true q k = h p (sym (getD-set-same es a e empty (omega (arith, sound .long))) ∙ (rw (eqb-true b a q) at k))
+      go b p false q k = sound .fits b p (sym (getD-set-other es a b e empty (eqb-false b a q)) ∙ k)
+
+  accepted-agrees : (c : Call (List ℕ)) → Passed (arrayStops g (shape c)) → Agrees g (accepted g (tablesOf g es) c) (arrayAccepted g es (shape c))
+  unfolding accepted arrayAccepted arrayStops shape badAddress badPattern
+  accepted-agrees clear p = record { answer = refl; tables = cleared-tables g; sound = emptied-sound g }
+  accepted-agrees (write a q) p =
+      let inside : a < g .depth = leb-false (g .depth) a (p .0) in
+      let small : q < patterns g = leb-false (patterns g) q (p .1 .0) in
+      record {
+        answer = ap held (store-entry g f es sound a);
+        tables = replaced-image g f es sound a inside (pattern q);
+        sound = set-sound a inside (pattern q) (λ r e. let same : q ≡ r = cc in omega arith);
+      }
+  accepted-agrees (erase a) p =
+      let inside : a < g .depth = leb-false (g .depth) a (p .0) in
+      record {
+        answer = ap held (store-entry g f es sound a);
+        tables = replaced-image g f es sound a inside empty;
+        sound = set-sound a inside empty (λ r e. absurd (let z : _≡_ {A = ℕ} 0 1 = cc in omega arith));
+      }
+  accepted-agrees (read a) p = record { answer = ap held (store-entry g f es sound a); tables = refl; sound = sound }
+  accepted-agrees (firstMatch key) p = record { answer = first-agrees key (leb-false (patterns g) key (p .0)); tables = refl; sound = sound }
+  accepted-agrees (allMatch key m) p =
+      let small : key < patterns g = leb-false (patterns g) key (p .1 .0) in
+      record { answer = ap₂ matched (matches-agree key small) (hits-agree key small); tables = refl; sound = sound }
+
+  pub agrees : (c : Call (List ℕ)) → Agrees g (step g (tablesOf g es) c) (arrayStep g es (shape c))
+  unfolding step arrayStep outcome arrayOutcome
+  agrees c = rw (same-stops c) (go (firstStop (arrayStops g (shape c))) refl)
+    where
+      go : (r : Option ℕ) → firstStop (arrayStops g (shape c)) ≡ r → Agrees g (outcome g (tablesOf g es) c r) (arrayOutcome g es (shape c) r)
+      go Option.none e = accepted-agrees c (passes (arrayStops g (shape c)) e)
+      go (Option.some n) e = record { answer = refl; tables = refl; sound = sound }

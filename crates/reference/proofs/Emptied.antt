@@ -1,0 +1,57 @@
+-- A clear leaves the tables of the empty array.
+use Prim.Native.Nat.{ℕ, zero, suc, _+_, _*_, _/_, _%_, _<_}
+use mathlib.Core.Path.{_≡_, refl, sym, ap, _∙_}
+use mathlib.Core.Bool.{Bool, true, false, _&&_, and-false}
+use mathlib.Core.List.{List, [], _∷_, map}
+use native.Mathlib.Omega.{arith}
+use lib.Dec.{ltb}
+use lib.ListN.{length, getD, replicate, length-replicate, getD-replicate, List·getD-eq-default}
+use borrow.Author.Tests.{ltb-true, ltb-false}
+use Rattle.words.specs.Rules.{member}
+use Rattle.words.specs.Bits.{bit, word}
+use Rattle.words.proofs.Rules.{any-false, list-tabulate}
+use Rattle.words.proofs.Bits.{bits-equal, bit-zero, bit-word-all}
+use Rattle.geometry.specs.declared.Geometry.{Geometry}
+use Rattle.geometry.specs.Sizes.{rowWords, addressOf}
+use Rattle.geometry.specs.Stages.{indicatorWords}
+use Rattle.reference.specs.Entry.{Entry, empty, emptyWord, wordOf}
+use Rattle.reference.specs.Array.{emptied, entryAt}
+use Rattle.reference.specs.Image.{entryRows, covers, covered, image, tablesOf}
+use Rattle.reference.specs.Steps.{clearTables}
+use Rattle.reference.proofs.Image.{Sound}
+
+entry-of-emptied : (g : Geometry) (a : ℕ) → entryAt (emptied g) a ≡ empty
+unfolding emptied
+entry-of-emptied g a = go (ltb a (g .depth)) refl
+  where
+    go : (b : Bool) → ltb a (g .depth) ≡ b → entryAt (replicate (g .depth) empty) a ≡ empty
+    go true e = getD-replicate (g .depth) a empty empty (ltb-true a (g .depth) e)
+    go false e = List·getD-eq-default (replicate (g .depth) empty) empty {n = a} (rw (length-replicate (g .depth) empty) (ltb-false a (g .depth) e))
+
+pub emptied-sound : (g : Geometry) → Sound g (emptied g)
+unfolding emptied
+emptied-sound g = record {
+  long = length-replicate (g .depth) empty;
+  fits = λ a p e. absurd (let z : _≡_ {A = ℕ} 0 1 = cc (entry-of-emptied g a) in omega arith);
+}
+
+map-replicate : (n : ℕ) → replicate n emptyWord ≡ map wordOf (replicate n empty)
+unfolding wordOf
+map-replicate zero = refl
+map-replicate (suc n) = ap (λ (l : List ℕ). emptyWord ∷ l) (map-replicate n)
+
+-- no entry covers a row
+not-covered : (g : Geometry) (r s : ℕ) → covered g (entryAt (emptied g)) r s ≡ false
+unfolding covered covers entryRows member
+not-covered g r s = any-false (g .«set_width») _ (λ o l. rw (entry-of-emptied g (addressOf g s o)))
+
+zeros : (g : Geometry) → replicate (indicatorWords g) 0 ≡ image g (emptied g)
+unfolding image
+zeros g =
+    list-tabulate (replicate (indicatorWords g) 0) (indicatorWords g) _ (length-replicate (indicatorWords g) 0)
+    (λ m h. getD-replicate (indicatorWords g) m 0 0 h
+    ∙ bits-equal 0 _ (λ b. bit-zero b ∙ sym (bit-word-all 64 _ b ∙ rw (not-covered g (m / rowWords g) (64 * (m % rowWords g) + b)) (and-false (ltb b 64)))))
+
+pub cleared-tables : (g : Geometry) → clearTables g ≡ tablesOf g (emptied g)
+unfolding clearTables tablesOf emptied
+cleared-tables g = λ i. record { store = map-replicate (g .depth) i; indicators = zeros g i }

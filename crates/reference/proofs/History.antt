@@ -1,0 +1,102 @@
+-- Statements 1 and 2, demand 3: a history that begins with an accepted clear is that of the plain array, and two such
+-- histories of one geometry leave equal tables exactly when they leave equal arrays. By induction on the calls, with
+-- `agrees` for each.
+use Prim.Native.Nat.{ℕ, _≤_}
+use mathlib.Core.Path.{_≡_, refl, sym, ap, ap₂, _∙_}
+use mathlib.Core.Logic.{_↔_}
+use mathlib.Core.Bool.{Bool, true, false, not}
+use mathlib.Core.List.{List, [], _∷_, map, zipWith}
+use mathlib.Core.Option as Option
+use mathlib.Core.Option.{Option}
+use native.Mathlib.Omega.{arith}
+use lib.ListN.{length}
+use lib.Seq.{ext-getD}
+use borrow.Author.Tests.{not-false}
+use Rattle.geometry.specs.declared.Geometry.{Geometry}
+use Rattle.geometry.specs.Valid.{valid}
+use Rattle.geometry.proofs.Facts.{facts}
+use Rattle.reference.specs.Entry.{Entry, empty}
+use Rattle.reference.specs.Calls.{Call, clear, shape, lent, left, Answer, cleared}
+use Rattle.reference.specs.Stops.{Stop, firstStop}
+use Rattle.reference.specs.Array.{Array, emptied, entryAt, arrayStops, arrayAccepted, arrayOutcome, arrayStep}
+use Rattle.reference.specs.Tables.{Tables, storeEntry}
+use Rattle.reference.specs.Image.{tablesOf}
+use Rattle.reference.specs.Steps.{stops, accepted, outcome, step, Outcome}
+use Rattle.reference.specs.History.{History, run, after, arrayAnswers, arrayAfter, arrayOf, Follows}
+use Rattle.reference.proofs.Image.{Sound, store-entry}
+use Rattle.reference.proofs.Emptied.{emptied-sound, cleared-tables}
+use Rattle.reference.proofs.Stopped.{passes, match-word-left}
+use Rattle.reference.proofs.Agreement.{Agrees, agrees}
+
+-- ---- from the tables of an array on
+
+module _ (g : Geometry) (ok : valid g ≡ true) where
+  answers-follow : (es : Array) → Sound g es → (cs : History) → map (λ (o : Outcome). o .answer) (run g (tablesOf g es) cs) ≡ arrayAnswers g es (map shape cs)
+  unfolding run arrayAnswers
+  answers-follow es sound [] = refl
+  answers-follow es sound (c ∷ cs) =
+      let a = agrees g ok es sound c in
+      ap₂ (λ (x : Answer) (xs : List Answer). x ∷ xs) (a .answer) (rw (a .tables) (answers-follow (arrayStep g es (shape c) .array) (a .sound) cs))
+
+  tables-follow : (es : Array) → Sound g es → (cs : History) → after g (tablesOf g es) cs ≡ tablesOf g (arrayAfter g es (map shape cs))
+  unfolding after arrayAfter
+  tables-follow es sound [] = refl
+  tables-follow es sound (c ∷ cs) =
+      let a = agrees g ok es sound c in
+      rw (a .tables) (tables-follow (arrayStep g es (shape c) .array) (a .sound) cs)
+
+  sound-follow : (es : Array) → Sound g es → (cs : List (Call (List ℕ))) → Sound g (arrayAfter g es (map shape cs))
+  unfolding arrayAfter
+  sound-follow es sound [] = sound
+  sound-follow es sound (c ∷ cs) = sound-follow (arrayStep g es (shape c) .array) (agrees g ok es sound c .sound) cs
+
+matches-left : (g : Geometry) (t : Tables) (cs : History)
+    → map (λ (o : Outcome). o .matches) (run g t cs) ≡ zipWith left (map (λ (o : Outcome). o .answer) (run g t cs)) (map lent cs)
+unfolding run zipWith
+matches-left g t [] = refl
+matches-left g t (c ∷ cs) = ap₂ (λ (x : List ℕ) (xs : List (List ℕ)). x ∷ xs) (match-word-left g t c) (matches-left g (step g t c .tables) cs)
+
+-- ---- from an accepted clear on, whatever the tables held
+
+-- an accepted clear was stopped by no row
+clear-passes : (g : Geometry) (t : Tables) → step g t clear .answer ≡ cleared → firstStop (stops g t clear) ≡ Option.none
+unfolding step outcome
+clear-passes g t e = go (firstStop (stops g t clear)) refl e
+  where
+    go : (r : Option ℕ) → firstStop (stops g t clear) ≡ r → outcome g t clear r .answer ≡ cleared → firstStop (stops g t clear) ≡ Option.none
+    go Option.none s h = s
+    go (Option.some n) s h = absurd (let z : _≡_ {A = ℕ} 0 1 = cc in omega arith)
+
+pub clear-valid : (g : Geometry) (t : Tables) → step g t clear .answer ≡ cleared → valid g ≡ true
+unfolding stops
+clear-valid g t e = not-false (valid g) (passes (stops g t clear) (clear-passes g t e) .0)
+
+clear-empties : (g : Geometry) (t : Tables) → step g t clear .answer ≡ cleared → step g t clear .tables ≡ tablesOf g (emptied g)
+unfolding step outcome accepted
+clear-empties g t e = rw (clear-passes g t e) (cleared-tables g)
+
+pub history : (g : Geometry) (t : Tables) (cs : History) → step g t clear .answer ≡ cleared → Follows g t (clear ∷ cs)
+unfolding run after arrayAnswers arrayAfter arrayStep arrayOutcome arrayStops firstStop arrayAccepted shape
+history g t cs e =
+    let ok = clear-valid g t e in
+    record {
+      answers = ap₂ (λ (x : Answer) (xs : List Answer). x ∷ xs) e (rw (clear-empties g t e) (answers-follow g ok (emptied g) (emptied-sound g) cs));
+      matches = matches-left g t (clear ∷ cs);
+      tables = rw (clear-empties g t e) (tables-follow g ok (emptied g) (emptied-sound g) cs);
+    }
+
+array-sound : (g : Geometry) (t : Tables) (cs : History) → step g t clear .answer ≡ cleared → Sound g (arrayOf g (clear ∷ cs))
+array-sound g t cs e = sound-follow g (clear-valid g t e) (emptied g) (emptied-sound g) (clear ∷ cs)
+
+-- arrays with equal tables are equal: the store tells every entry
+array-told : (g : Geometry) → valid g ≡ true → (es fs : Array) → Sound g es → Sound g fs → tablesOf g es ≡ tablesOf g fs → es ≡ fs
+array-told g ok es fs p q same =
+    ext-getD empty es fs (p .long ∙ sym (q .long))
+    (λ a l. sym (store-entry g (facts g ok) es p a) ∙ ap (λ (t : Tables). storeEntry g t a) same ∙ store-entry g (facts g ok) fs q a)
+
+pub equal-tables : (g : Geometry) (t u : Tables) (cs ds : History) → step g t clear .answer ≡ cleared → step g u clear .answer ≡ cleared
+    → (after g t (clear ∷ cs) ≡ after g u (clear ∷ ds)) ↔ (arrayOf g (clear ∷ cs) ≡ arrayOf g (clear ∷ ds))
+equal-tables g t u cs ds e d =
+    let p = history g t cs e .tables in
+    let q = history g u ds d .tables in
+    (λ same. array-told g (clear-valid g t e) _ _ (array-sound g t cs e) (array-sound g u ds d) (sym p ∙ same ∙ q), λ same. p ∙ ap (tablesOf g) same ∙ sym q)

@@ -9,8 +9,9 @@ use native.Mathlib.Nat.{mod-lt, mul-suc}
 use native.Mathlib.Omega.{arith}
 use lib.Dec.{eqb, ltb}
 use lib.Pow.{pow-pos, shr-shr, shr-mod, split}
-use borrow.Author.Tests.{ltb-true, ltb-false, lt-ltb, le-ltb}
-use Rattle.words.specs.Rules.{tabulate}
+use borrow.Author.Tests.{ltb-true, ltb-false, lt-ltb, le-ltb, eqb-true, eq-eqb}
+use Rattle.words.specs.Rules.{member, tabulate}
+use Rattle.words.proofs.Rules.{both-ways, any-witness, any-true, member-tabulate}
 use Rattle.geometry.specs.declared.Geometry.{Geometry}
 use Rattle.geometry.specs.Valid.{cascaded}
 use Rattle.geometry.specs.Sizes.{roundedUp, patterns}
@@ -76,21 +77,30 @@ module _ (g : Geometry) (f : Facts g) where
           let e : stages g - 1 ≡ k = omega (arith, ltb-false (k + 1) (stages g) t) in
           rw e (omega (arith, stage-lt k p))
 
-  stage-le : (p q k l : ℕ) → l < stages g → rowOf g p k ≡ rowOf g q l → l ≤ k
-  unfolding rowOf
-  stage-le p q k l h e = go (ltb k l) refl
+  -- a value of a stage that is not the last is below 512, so a row number tells its stage and its row there
+  stage-le : (k l x y : ℕ) → l < stages g → x < 2 ^ stageWidth g k → 512 * k + x ≡ 512 * l + y → l ≤ k
+  stage-le k l x y h small e = go (ltb k l) refl
     where
       go : (b : Bool) → ltb k l ≡ b → l ≤ k
-      go true t = let below = ltb-true k l t in omega (arith, inner-lt k p (omega arith))
+      go true t = let below = ltb-true k l t in omega (arith, rw (width-inner k (omega arith)) at small)
       go false t = ltb-false k l t
 
-  -- a row tells its stage and the stage's value
-  pub row-stage : (p q k l : ℕ) → k < stages g → l < stages g → rowOf g p k ≡ rowOf g q l → k ≡ l
-  row-stage p q k l hk hl e = omega (arith, stage-le p q k l hl e, stage-le q p l k hk (sym e))
+  pub row-stage : (k l x y : ℕ) → k < stages g → l < stages g → x < 2 ^ stageWidth g k → y < 2 ^ stageWidth g l → 512 * k + x ≡ 512 * l + y → k ≡ l
+  row-stage k l x y hk hl hx hy e = omega (arith, stage-le k l x y hl hx e, stage-le l k y x hk hy (sym e))
 
-  pub row-value : (p q k l : ℕ) → k < stages g → l < stages g → rowOf g p k ≡ rowOf g q l → stage g k p ≡ stage g k q
-  unfolding rowOf
-  row-value p q k l hk hl e = omega (arith, rw (← row-stage p q k l hk hl e) at e)
+  -- row x of stage k is a row of the pattern p exactly when x is stage k of p
+  pub row-among : (k x p : ℕ) → k < stages g → x < 2 ^ stageWidth g k → member (512 * k + x) (rowsOf g p) ≡ eqb x (stage g k p)
+  unfolding rowsOf rowOf
+  row-among k x p h small =
+      member-tabulate (512 * k + x) (stages g) (rowOf g p)
+      ∙ both-ways _ _ (λ e. among (any-witness (stages g) _ e))
+      (λ e. any-true (stages g) _ k h (eq-eqb _ _ (ap (λ n. 512 * k + n) (eqb-true x (stage g k p) e))))
+    where
+      among : (l : ℕ) × (l < stages g) × (eqb (512 * k + x) (512 * l + stage g l p) ≡ true) → eqb x (stage g k p) ≡ true
+      among (l, m, e) =
+          let same = eqb-true (512 * k + x) (512 * l + stage g l p) e in
+          let k-is : k ≡ l = row-stage k l x (stage g l p) h m small (stage-lt l p) same in
+          eq-eqb x (stage g k p) (omega (arith, rw (← k-is) at same))
 
   -- where there is one stage, it is the whole pattern, and the pattern is its row
   pub one-stage : (p : ℕ) → stages g ≡ 1 → p < patterns g → rowsOf g p ≡ (p ∷ [])

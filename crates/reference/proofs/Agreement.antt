@@ -28,9 +28,10 @@ use Rattle.reference.specs.Array.{Array, emptied, entryAt, lowest, count
 use Rattle.reference.specs.Tables.{Tables, storeWord, storeEntry}
 use Rattle.reference.specs.Image.{covers, entryRows, covered, image, tablesOf}
 use Rattle.reference.specs.Search.{firstAnswer, takenWords}
+use Rattle.reference.specs.Statements.{FirstIs}
 use Rattle.reference.specs.Steps.{badLengths, badMatches, badEntry, ownStops, stops, Outcome, accepted, outcome, step}
 use Rattle.reference.proofs.Covering.{holds-word}
-use Rattle.reference.proofs.Mirrored.{FirstIs, first-is, first-not-false, none-false, all-are, all-counted}
+use Rattle.reference.proofs.Mirrored.{first-is, first-not-false, none-false, all-are, all-counted}
 use Rattle.reference.proofs.Image.{Sound, store-word, store-entry, store-long, indicators-long, image-mirrors, replaced-image}
 use Rattle.reference.proofs.Lowest.{holding, lowest-is, hits-are}
 use Rattle.reference.proofs.Stopped.{passes}
@@ -106,7 +107,7 @@ module _ (g : Geometry) (ok : valid g ≡ true) (es : Array) (sound : Sound g es
         none-before = λ j l. held-is key small j ∙ h .none-before j l;
       }
 
-      go : FirstIs g f (tablesOf g es) (image-mirrors g f es sound) key small (firstAnswer g (tablesOf g es) key)
+      go : FirstIs g (tablesOf g es) key (firstAnswer g (tablesOf g es) key)
           → ((i : ℕ) × (lowest key 0 es ≡ Option.some (0 + i)) × First (length es) (holding es key) i) ⊎ ((lowest key 0 es ≡ Option.none) × Nowhere (length es) (holding es key))
           → firstAnswer g (tablesOf g es) key ≡ counted g (lowest key 0 es)
       go (inl (a, first, answer)) (inl (i, low, lowest-first)) = rw (low, zero-add i, ← first-unique (g .depth) _ a i first (there i lowest-first)) answer

@@ -1,17 +1,16 @@
 -- An entry that covers every row of a pattern holds it: the stages of a pattern determine it.
 use Prim.Native.Nat.{ℕ, _<_}
-use mathlib.Core.Path.{_≡_, refl, sym, ap, _∙_}
+use mathlib.Core.Path.{_≡_, refl, sym, _∙_}
 use mathlib.Core.Bool.{Bool, true, false, cond, false≢true}
 use lib.Dec.{eqb, ltb}
 use borrow.Author.Tests.{ltb-true, ltb-false, lt-ltb, eqb-true, eq-eqb, ne-eqb}
 use native.Mathlib.Omega.{arith}
-use Rattle.words.specs.Rules.{any, member}
-use Rattle.words.proofs.Rules.{any-witness, any-true, member-tabulate}
+use Rattle.words.specs.Rules.{member}
 use Rattle.geometry.specs.declared.Geometry.{Geometry}
 use Rattle.geometry.specs.Sizes.{patterns}
 use Rattle.geometry.specs.Stages.{stages, stage, rowOf, rowsOf}
 use Rattle.geometry.proofs.Facts.{Facts}
-use Rattle.geometry.proofs.Stages.{stages-pos, stages-determine, row-value}
+use Rattle.geometry.proofs.Stages.{stages-pos, stage-lt, stages-determine, row-among}
 use Rattle.reference.specs.Entry.{Entry, empty, pattern, entryOf, holds}
 use Rattle.reference.specs.Image.{entryRows, covers}
 
@@ -26,18 +25,15 @@ module _ (g : Geometry) (f : Facts g) (key : ℕ) (small : key < patterns g) whe
       go false e = sym (ne-eqb w key (λ q. omega (arith, ltb-false w (patterns g) e)))
 
   row-member : (k : ℕ) → k < stages g → member (rowOf g key k) (rowsOf g key) ≡ true
-  unfolding rowsOf
-  row-member k h = member-tabulate (rowOf g key k) (stages g) (rowOf g key) ∙ any-true (stages g) _ k h (eq-eqb (rowOf g key k) (rowOf g key k) refl)
+  unfolding rowOf
+  row-member k h = row-among g f k (stage g k key) key h (stage-lt g f k key) ∙ eq-eqb (stage g k key) (stage g k key) refl
 
   -- a pattern among whose rows are all of the key's is the key
   rows-same : (p : ℕ) → p < patterns g → ((k : ℕ) → k < stages g → member (rowOf g key k) (rowsOf g p) ≡ true) → p ≡ key
-  unfolding rowsOf
-  rows-same p h shared = stages-determine g f p key h small (λ k l. same k l)
-    where
-      same : (k : ℕ) → k < stages g → stage g k p ≡ stage g k key
-      same k l =
-          let w = any-witness (stages g) (λ i. eqb (rowOf g key k) (rowOf g p i)) (sym (member-tabulate (rowOf g key k) (stages g) (rowOf g p)) ∙ shared k l) in
-          sym (row-value g f key p k (w .0) l (w .1) (eqb-true (rowOf g key k) (rowOf g p (w .0)) (w .2)))
+  unfolding rowOf
+  rows-same p h shared =
+      stages-determine g f p key h small
+      (λ k l. sym (eqb-true (stage g k key) (stage g k p) (sym (row-among g f k (stage g k key) p l (stage-lt g f k key)) ∙ shared k l)))
 
   pub covers-key : (w : ℕ) → ((r : ℕ) → member r (rowsOf g key) ≡ true → covers g (entryOf g w) r ≡ true) → eqb w key ≡ true
   unfolding covers entryOf entryRows member

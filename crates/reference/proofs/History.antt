@@ -11,21 +11,21 @@ use mathlib.Core.Option.{Option}
 use native.Mathlib.Omega.{arith}
 use lib.ListN.{length}
 use lib.Seq.{ext-getD}
-use borrow.Author.Tests.{not-false}
 use Rattle.geometry.specs.declared.Geometry.{Geometry}
 use Rattle.geometry.specs.Valid.{valid}
 use Rattle.geometry.proofs.Facts.{facts}
 use Rattle.reference.specs.Entry.{Entry, empty}
 use Rattle.reference.specs.Calls.{Call, clear, shape, lent, left, Answer, cleared}
-use Rattle.reference.specs.Stops.{Stop, firstStop}
+use Rattle.reference.specs.Stops.{firstStop, Passed}
 use Rattle.reference.specs.Array.{Array, emptied, entryAt, arrayStops, arrayAccepted, arrayOutcome, arrayStep}
 use Rattle.reference.specs.Tables.{Tables, storeEntry}
 use Rattle.reference.specs.Image.{tablesOf}
 use Rattle.reference.specs.Steps.{stops, accepted, outcome, step, Outcome}
-use Rattle.reference.specs.History.{History, run, after, arrayAnswers, arrayAfter, arrayOf, Follows}
+use Rattle.reference.specs.History.{History, run, after, arrayAnswers, arrayAfter, arrayOf}
+use Rattle.reference.specs.Statements.{Follows}
 use Rattle.reference.proofs.Image.{Sound, store-entry}
 use Rattle.reference.proofs.Emptied.{emptied-sound, cleared-tables}
-use Rattle.reference.proofs.Stopped.{passes, match-word-left}
+use Rattle.reference.proofs.Stopped.{passed-none, not-stopped, passed-valid, match-word-left}
 use Rattle.reference.proofs.Agreement.{Agrees, agrees}
 
 -- ---- from the tables of an array on
@@ -58,22 +58,15 @@ matches-left g t (c ∷ cs) = ap₂ (λ (x : List ℕ) (xs : List (List ℕ)). x
 
 -- ---- from an accepted clear on, whatever the tables held
 
--- an accepted clear was stopped by no row
-clear-passes : (g : Geometry) (t : Tables) → step g t clear .answer ≡ cleared → firstStop (stops g t clear) ≡ Option.none
-unfolding step outcome
-clear-passes g t e = go (firstStop (stops g t clear)) refl e
-  where
-    go : (r : Option ℕ) → firstStop (stops g t clear) ≡ r → outcome g t clear r .answer ≡ cleared → firstStop (stops g t clear) ≡ Option.none
-    go Option.none s h = s
-    go (Option.some n) s h = absurd (let z : _≡_ {A = ℕ} 0 1 = cc in omega arith)
+clear-passes : (g : Geometry) (t : Tables) → step g t clear .answer ≡ cleared → Passed (stops g t clear)
+clear-passes g t e = not-stopped g t clear cleared (λ n h. let z : _≡_ {A = ℕ} 0 1 = cc in omega arith) e
 
 pub clear-valid : (g : Geometry) (t : Tables) → step g t clear .answer ≡ cleared → valid g ≡ true
-unfolding stops
-clear-valid g t e = not-false (valid g) (passes (stops g t clear) (clear-passes g t e) .0)
+clear-valid g t e = passed-valid g t clear (clear-passes g t e)
 
 clear-empties : (g : Geometry) (t : Tables) → step g t clear .answer ≡ cleared → step g t clear .tables ≡ tablesOf g (emptied g)
 unfolding step outcome accepted
-clear-empties g t e = rw (clear-passes g t e) (cleared-tables g)
+clear-empties g t e = rw (passed-none (stops g t clear) (clear-passes g t e)) (cleared-tables g)
 
 pub history : (g : Geometry) (t : Tables) (cs : History) → step g t clear .answer ≡ cleared → Follows g t (clear ∷ cs)
 unfolding run after arrayAnswers arrayAfter arrayStep arrayOutcome arrayStops firstStop arrayAccepted shape

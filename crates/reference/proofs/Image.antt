@@ -11,7 +11,7 @@ use lib.Seq.{getD-set-same, getD-set-other}
 use borrow.Author.Tests.{ltb-true, ltb-false, lt-ltb, le-ltb, eqb-true, eqb-false, eq-eqb}
 use Rattle.words.specs.Rules.{any, tabulate}
 use Rattle.words.specs.Bits.{bit, word}
-use Rattle.words.proofs.Rules.{any-ext, any-split, length-tabulate, getD-tabulate, list-tabulate}
+use Rattle.words.proofs.Rules.{both-ways, any-ext, any-split, length-tabulate, getD-tabulate, list-tabulate}
 use Rattle.words.proofs.Bits.{bits-equal, bit-word-all}
 use Rattle.geometry.specs.declared.Geometry.{Geometry}
 use Rattle.geometry.specs.Sizes.{patterns, sets, rowWords, setOf, offsetOf, addressOf}
@@ -21,10 +21,10 @@ use Rattle.geometry.proofs.Places.{offset-lt, address-of, set-of, offset-of, pl
 use Rattle.reference.specs.Entry.{Entry, empty, pattern, emptyWord, wordOf, entryOf}
 use Rattle.reference.specs.Array.{Array, entryAt}
 use Rattle.reference.specs.Tables.{Tables, storeWord, storeEntry, cell, belongs}
-use Rattle.reference.specs.Image.{covers, covered, image, tablesOf, Mirrors}
+use Rattle.reference.specs.Image.{covers, covered, image, tablesOf}
+use Rattle.reference.specs.Statements.{Mirrors, EveryBit}
 use Rattle.reference.specs.Update.{othersCover, replaced}
-use Rattle.reference.proofs.Indicated.{both-ways}
-use Rattle.reference.proofs.Replaced.{replaced-bits, EveryBit}
+use Rattle.reference.proofs.Replaced.{replaced-bits}
 
 -- An array of the geometry: D entries, each empty or a pattern of it.
 pub record Sound (g : Geometry) (es : Array) : Type 0 where

@@ -13,7 +13,7 @@ use lib.Pow.{pow-mono, ones-lt}
 use borrow.Author.Tests.{ltb-true, ltb-false, lt-ltb, le-ltb, eqb-true, eq-eqb}
 use Rattle.words.specs.Rules.{any, member}
 use Rattle.words.specs.Bits.{bit}
-use Rattle.words.proofs.Rules.{any-witness, any-true}
+use Rattle.words.proofs.Rules.{both-ways, any-witness, any-true}
 use Rattle.words.proofs.Bits.{bit-and, bit-ones}
 use Rattle.geometry.specs.declared.Geometry.{Geometry}
 use Rattle.geometry.specs.Sizes.{patterns, sets, rowWords, addressOf}
@@ -23,16 +23,11 @@ use Rattle.geometry.proofs.Places.{word-lt}
 use Rattle.geometry.proofs.Stages.{one-stage}
 use Rattle.reference.specs.Entry.{pattern, entryOf}
 use Rattle.reference.specs.Tables.{Tables, storeWord, storeEntry, cell}
-use Rattle.reference.specs.Image.{entryRows, covers, covered, Mirrors}
+use Rattle.reference.specs.Image.{entryRows, covers, covered}
+use Rattle.reference.specs.Statements.{Mirrors}
 use Rattle.reference.specs.Search.{setMask, joined, indicated}
 use Rattle.reference.proofs.Replaced.{covers-lt}
 use Rattle.reference.proofs.Covering.{covers-key, key-covers}
-
--- two tests that follow from each other are one
-pub both-ways : (a b : Bool) → (a ≡ true → b ≡ true) → (b ≡ true → a ≡ true) → a ≡ b
-both-ways true b p q = sym (p refl)
-both-ways false true p q = q refl
-both-ways false false p q = refl
 
 module _ (g : Geometry) (t : Tables) (j : ℕ) where
   joins : ℕ → ℕ → ℕ

@@ -7,30 +7,32 @@ use mathlib.Core.Bool.{Bool, true, false, cond, not, _&&_, _||_, and-false, or-t
 use native.Mathlib.Nat.{lt-trans, le-add-right, add-zero}
 use native.Mathlib.Omega.{arith}
 use lib.Dec.{eqb, ltb}
-use lib.ListN.{List·getD-eq-default}
-use borrow.Author.Tests.{ltb-true, ltb-false, ne-eqb}
+use mathlib.Core.List.{List}
+use lib.ListN.{length, List·getD-eq-default}
+use borrow.Author.Tests.{ltb-true, ltb-false, lt-leb, eq-eqb, ne-eqb}
 use Rattle.words.specs.Rules.{any, count, tabulate, First, Nowhere}
 use Rattle.words.specs.Bits.{word, totalOnes}
 use Rattle.words.specs.Seek.{Sought, found, missed}
-use Rattle.words.proofs.Rules.{any-witness, any-true, any-false, none-of-any, count-ext, count-none, count-add, tabulate-ext}
+use Rattle.words.proofs.Rules.{both-ways, any-witness, any-true, any-false, none-of-any, count-ext, count-none, count-add, tabulate-ext}
 use Rattle.words.proofs.Bits.{word-ext, ones-of-rule}
 use Rattle.words.proofs.Seek.{seek-found, seek-missed, row-word, row-first, row-nowhere}
 use Rattle.geometry.specs.declared.Geometry.{Geometry}
-use Rattle.geometry.specs.Valid.{segmented}
+use Rattle.geometry.specs.Valid.{valid, segmented}
 use Rattle.geometry.specs.Sizes.{patterns, sets, rowWords, matchWords, setOf, offsetOf, addressOf}
-use Rattle.geometry.proofs.Facts.{Facts, patterns-most}
+use Rattle.geometry.proofs.Facts.{Facts, facts, patterns-most}
 use Rattle.geometry.proofs.Places.{set-lt, offset-lt, address-lt, address-of, set-of, offset-of, below-address, set-past, word-of, sets-most, matches-most}
 use Rattle.reference.specs.Entry.{emptyWord}
-use Rattle.reference.specs.Calls.{Answer, at, none, refused}
+use Rattle.reference.specs.Calls.{firstMatch, allMatch, none, matched}
+use Rattle.reference.specs.Stops.{firstStop, badPattern}
 use Rattle.reference.specs.Tables.{Tables, storeWord}
-use Rattle.reference.specs.Image.{Mirrors}
+use Rattle.reference.specs.Statements.{Mirrors, stores, FirstIs, AllAre}
 use Rattle.reference.specs.Search.{joined, indicated, seekWord, seekEntry, lowestSet, falseSet, firstIsFalse, anyIsFalse, answerIn, firstAnswer, taken, takenWords}
-use Rattle.reference.proofs.Indicated.{both-ways, joined-lt, indicated-out, indicated-in, indicated-is}
+use Rattle.reference.specs.Steps.{badLengths, badMatches, ownStops, stops, accepted, outcome, step}
+use Rattle.reference.proofs.Indicated.{joined-lt, indicated-out, indicated-in, indicated-is}
 
 module _ (g : Geometry) (f : Facts g) (t : Tables) (mirrors : Mirrors g t) (key : ℕ) (small : key < patterns g) where
-  -- whether the address holds the key
   abbrev held : ℕ → Bool
-  held a = eqb (storeWord t a) key
+  held = stores t key
 
   abbrev heldAt : ℕ → ℕ → Bool
   heldAt s o = held (addressOf g s o)
@@ -74,19 +76,13 @@ module _ (g : Geometry) (f : Facts g) (t : Tables) (mirrors : Mirrors g t) (key 
   unfolding falseSet
   no-false-set s h = let w = seeks s h in rw (w .2) (and-false (eqb (g .kind) segmented))
 
-  -- the lowest address that holds the key, with document 01's w and c; or none, and no address holds it
-  abbrev pub FirstIs : Answer → Type 0
-  FirstIs answer =
-      ((a : ℕ) × First (g .depth) held a × (answer ≡ at a (a / (64 * g .«set_width») + 1) (cond (eqb (g .kind) segmented) (offsetOf g a + 1) 0)))
-      ⊎ (Nowhere (g .depth) held × (answer ≡ none (rowWords g) 0))
-
-  in-set : (s w : ℕ) → First (64 * rowWords g) (indicated g t key) s → w ≡ s / 64 + 1 → FirstIs (answerIn g t key s w)
+  in-set : (s w : ℕ) → First (64 * rowWords g) (indicated g t key) s → w ≡ s / 64 + 1 → FirstIs g t key (answerIn g t key s w)
   unfolding answerIn
   in-set s w first counted = go (eqb (g .kind) segmented) refl (seeks s (first .here))
     where
       go : (b : Bool) → eqb (g .kind) segmented ≡ b
           → (o : ℕ) × (c : ℕ) × (seekEntry g t key s ≡ found o c) × First (g .«set_width») (heldAt s) o × (c ≡ o + 1)
-          → FirstIs (answerIn g t key s w)
+          → FirstIs g t key (answerIn g t key s w)
       go true e (o, c, h, place, looks) =
           let in-s : setOf g (addressOf g s o) ≡ s = set-of g f s o (place .within) in
           inl (
@@ -101,11 +97,11 @@ module _ (g : Geometry) (f : Facts g) (t : Tables) (mirrors : Mirrors g t) (key 
           let in-s : setOf g s ≡ s = rw same at (set-of g f s o (place .within)) in
           inl (s, rw same at (first-address s o first place), rw (e, answerIn, word-of g f s, in-s, counted))
 
-  pub first-is : FirstIs (firstAnswer g t key)
+  pub first-is : FirstIs g t key (firstAnswer g t key)
   unfolding firstAnswer seekWord lowestSet indicated
   first-is = go (seekWord g t key) refl
     where
-      go : (r : Sought) → seekWord g t key ≡ r → FirstIs (elim r [ found j w ↦ answerIn g t key (lowestSet g t key j) w | missed w ↦ none w 0 ])
+      go : (r : Sought) → seekWord g t key ≡ r → FirstIs g t key (elim r [ found j w ↦ answerIn g t key (lowestSet g t key j) w | missed w ↦ none w 0 ])
       go (found j w) e =
           let p = seek-found (rowWords g) _ j w e in
           let first = row-first (rowWords g) (joined g t key) (joined-lt g t key) j (p .0) in
@@ -178,3 +174,22 @@ module _ (g : Geometry) (f : Facts g) (t : Tables) (mirrors : Mirrors g t) (key 
       ∙ ap (λ n. count n held) (sym whole)
       ∙ count-add (g .depth) (64 * matchWords g - g .depth) held
       ∙ rw (count-none (64 * matchWords g - g .depth) _ (λ i l. held-past (g .depth + i) (le-add-right (g .depth) i))) (add-zero _)
+
+-- ---- the two calls
+
+module _ (g : Geometry) (ok : valid g ≡ true) (t : Tables) (mirrors : Mirrors g t) (key : ℕ) (small : key < patterns g) where
+  lengths-pass : badLengths g t ≡ false
+  unfolding badLengths
+  lengths-pass = rw (eq-eqb _ _ (mirrors .entries), eq-eqb _ _ (mirrors .words))
+
+  pub first-match-mirrored : FirstIs g t key (step g t (firstMatch key) .answer)
+  unfolding step outcome stops ownStops badMatches badPattern firstStop accepted
+  first-match-mirrored =
+      rw (ok, lengths-pass, lt-leb (patterns g) key small, first-not-false g (facts g ok) t mirrors key small)
+      (first-is g (facts g ok) t mirrors key small)
+
+  pub all-match-mirrored : (m : List ℕ) → length m ≡ matchWords g → AllAre g t key (step g t (allMatch key m) .answer)
+  unfolding step outcome stops ownStops badMatches badPattern firstStop accepted
+  all-match-mirrored m long =
+      rw (ok, lengths-pass, eq-eqb (length m) (matchWords g) long, lt-leb (patterns g) key small, none-false g (facts g ok) t mirrors key small)
+      (ap₂ matched (all-are g (facts g ok) t mirrors key small) (all-counted g (facts g ok) t mirrors key small))

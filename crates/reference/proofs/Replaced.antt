@@ -3,23 +3,29 @@ use Prim.Native.Nat.{ℕ, _<_}
 use mathlib.Core.Path.{_≡_, refl, sym, ap, _∙_}
 use mathlib.Core.Bool.{Bool, true, false, cond, not, _&&_, _||_, and-eq-true-iff, false≢true}
 use mathlib.Core.List.{List}
+use native.Mathlib.Omega.{arith}
 use lib.Dec.{eqb}
 use lib.ListN.{length, getD, set, length-set}
 use lib.Seq.{getD-set-same, getD-set-other}
-use borrow.Author.Tests.{eqb-true}
+use borrow.Author.Tests.{leb-false, eqb-true}
 use Rattle.words.specs.Rules.{any, member, keep}
 use Rattle.words.specs.Bits.{setBit}
 use Rattle.words.proofs.Rules.{any-witness, member-tabulate, member-keep}
 use Rattle.geometry.specs.declared.Geometry.{Geometry}
 use Rattle.geometry.specs.Sizes.{sets, rowWords, setOf}
 use Rattle.geometry.specs.Stages.{stages, rowOf, rowsOf, rows, indicatorWords}
-use Rattle.geometry.proofs.Facts.{Facts}
+use Rattle.geometry.proofs.Facts.{Facts, facts}
 use Rattle.geometry.proofs.Places.{set-lt}
 use Rattle.geometry.proofs.Stages.{row-lt}
 use Rattle.reference.specs.Entry.{Entry, empty, pattern, wordOf}
+use Rattle.reference.specs.Calls.{Call, write, erase, held}
+use Rattle.reference.specs.Stops.{Passed, badAddress}
 use Rattle.reference.specs.Tables.{Tables, storeWord, storeEntry, cell, belongs}
 use Rattle.reference.specs.Image.{entryRows, covers}
+use Rattle.reference.specs.Statements.{EveryBit}
 use Rattle.reference.specs.Update.{change, othersCover, released, replaced}
+use Rattle.reference.specs.Steps.{ownStops, stops, accepted, outcome, step}
+use Rattle.reference.proofs.Stopped.{passed-none, not-stopped, passed-valid, passed-lengths}
 use Rattle.reference.proofs.Cells.{length-change, set-cell, clear-cell}
 
 -- what an entry covers is a row of the indicators
@@ -29,19 +35,6 @@ covers-lt g f empty r h = absurd (false≢true h)
 covers-lt g f (pattern p) r h =
     let w = any-witness (stages g) (λ k. eqb r (rowOf g p k)) (sym (member-tabulate r (stages g) (rowOf g p)) ∙ h) in
     rw (eqb-true r (rowOf g p (w .0)) (w .2)) (row-lt g f p (w .0) (w .1))
-
--- The bit of row r in the set of a: set where the new entry covers r; else cleared where the old one covers r and no
--- other address of the set does; else as it was. Every other bit, padding bits too, is as it was.
-pub record EveryBit (g : Geometry) (t u : Tables) (a : ℕ) (e : Entry) : Type 0 where
-  pub bits : (r j b : ℕ) → j < rowWords g
-      → cell g (u .indicators) r j b
-      ≡ cond (belongs (setOf g a) j b)
-      (covers g e r || (not (covers g (storeEntry g t a) r && not (othersCover g t a r)) && cell g (t .indicators) r j b))
-      (cell g (t .indicators) r j b)
-  pub words : length (u .indicators) ≡ length (t .indicators)
-  pub entry : storeWord u a ≡ wordOf e
-  pub others : (b : ℕ) → (b ≡ a → ⊥) → storeWord u b ≡ storeWord t b
-  pub entries : length (u .store) ≡ length (t .store)
 
 pub replaced-bits : (g : Geometry) → Facts g → (t : Tables) (a : ℕ) (e : Entry) → a < g .depth → length (t .store) ≡ g .depth → length (t .indicators) ≡ indicatorWords g
     → EveryBit g t (replaced g t a e) a e
@@ -81,3 +74,21 @@ replaced-bits g f t a e ha stored indicated = record {
     formula false true false false c = refl
     formula false false O true c = refl
     formula false false O false c = refl
+
+-- A call that passed the table and puts e at address a.
+module _ (g : Geometry) (t : Tables) (c : Call (List ℕ)) (a : ℕ) (e : Entry) (passed : Passed (stops g t c))
+    (inside : badAddress g a ≡ false) (puts : accepted g t c .tables ≡ replaced g t a e) where
+  puts-bits : EveryBit g t (step g t c .tables) a e
+  unfolding step outcome badAddress
+  puts-bits =
+      let lengths = passed-lengths g t c passed in
+      rw (passed-none (stops g t c) passed, puts) (replaced-bits g (facts g (passed-valid g t c passed)) t a e (leb-false (g .depth) a inside) (lengths .0) (lengths .1))
+
+-- Every accepted write and every accepted erase.
+pub write-bits : (g : Geometry) (t : Tables) (a p : ℕ) (e : Entry) → step g t (write a p) .answer ≡ held e → EveryBit g t (step g t (write a p) .tables) a (pattern p)
+unfolding stops ownStops accepted
+write-bits g t a p e h = let passed = not-stopped g t (write a p) (held e) (λ n q. let z : _≡_ {A = ℕ} 0 1 = cc in omega arith) h in puts-bits g t (write a p) a (pattern p) passed (passed .1 .1 .0) refl
+
+pub erase-bits : (g : Geometry) (t : Tables) (a : ℕ) (e : Entry) → step g t (erase a) .answer ≡ held e → EveryBit g t (step g t (erase a) .tables) a empty
+unfolding stops ownStops accepted
+erase-bits g t a e h = let passed = not-stopped g t (erase a) (held e) (λ n q. let z : _≡_ {A = ℕ} 0 1 = cc in omega arith) h in puts-bits g t (erase a) a empty passed (passed .1 .1 .0) refl

@@ -3,20 +3,23 @@
 use Prim.Native.Nat.{ℕ}
 use mathlib.Core.Path.{_≡_, refl, sym, ap, _∙_}
 use mathlib.Core.Logic.{_↔_}
-use mathlib.Core.Bool.{Bool, true, false, true≢false}
-use mathlib.Core.List.{List, [], _∷_, _++_}
+use mathlib.Core.Bool.{Bool, true, false, _||_, and-eq-true-iff, true≢false}
+use mathlib.Core.List.{List, [], _∷_, _++_, append-nil}
 use mathlib.Core.Option as Option
 use mathlib.Core.Option.{Option}
 use native.Mathlib.Omega.{arith}
 use lib.Dec.{eqb}
+use lib.ListN.{length}
+use borrow.Author.Tests.{not-false, eqb-true}
 use Rattle.words.specs.Seek.{Sought, found, missed}
 use Rattle.geometry.specs.declared.Geometry.{Geometry}
-use Rattle.geometry.specs.Valid.{segmented}
+use Rattle.geometry.specs.Valid.{valid, segmented}
+use Rattle.geometry.specs.Stages.{indicatorWords}
 use Rattle.reference.specs.Calls.{Call, clear, write, erase, read, firstMatch, allMatch, lent, left, Answer, refused, cleared, held, at, none, matched}
 use Rattle.reference.specs.Stops.{Stop, _given-when_, firstStop, Passed, FirstApplies}
 use Rattle.reference.specs.Tables.{Tables}
 use Rattle.reference.specs.Search.{seekWord, seekEntry, lowestSet, falseSet, firstIsFalse, answerIn, firstAnswer}
-use Rattle.reference.specs.Steps.{ownStops, stops, accepted, outcome, step, Outcome}
+use Rattle.reference.specs.Steps.{badLengths, badMatches, ownStops, stops, accepted, outcome, step, Outcome}
 
 -- the table is passed exactly when it is passed row by row
 pub passes : (rows : List Stop) → firstStop rows ≡ Option.none → Passed rows
@@ -31,6 +34,10 @@ unfolding firstStop
 below-passed [] rest p = refl
 below-passed ((n given-when true) ∷ above) rest p = absurd (true≢false (p .0))
 below-passed ((n given-when false) ∷ above) rest p = below-passed above rest (p .1)
+
+pub passed-none : (rows : List Stop) → Passed rows → firstStop rows ≡ Option.none
+unfolding firstStop
+passed-none rows p = ap firstStop (sym (append-nil rows)) ∙ below-passed rows [] p
 
 stop-first : (rows : List Stop) (n : ℕ) → firstStop rows ≡ Option.some n → FirstApplies rows n
 unfolding firstStop
@@ -81,6 +88,30 @@ given-exactly g t c n = (λ e. stop-first (stops g t c) n (go (firstStop (stops 
     go : (r : Option ℕ) → firstStop (stops g t c) ≡ r → outcome g t c r .answer ≡ refused n → r ≡ Option.some n
     go Option.none s e = absurd (accepted-no-number g t c n (passes (stops g t c) s .1 .1) e)
     go (Option.some m) s e = cc
+
+-- an answer that is no number: no row of the table applied
+pub not-stopped : (g : Geometry) (t : Tables) (c : Call (List ℕ)) (x : Answer) → ((n : ℕ) → x ≡ refused n → ⊥) → step g t c .answer ≡ x → Passed (stops g t c)
+unfolding step outcome
+not-stopped g t c x other e = passes (stops g t c) (go (firstStop (stops g t c)) refl e)
+  where
+    go : (r : Option ℕ) → firstStop (stops g t c) ≡ r → outcome g t c r .answer ≡ x → firstStop (stops g t c) ≡ Option.none
+    go Option.none s h = s
+    go (Option.some n) s h = absurd (other n (sym h))
+
+pub passed-valid : (g : Geometry) (t : Tables) (c : Call (List ℕ)) → Passed (stops g t c) → valid g ≡ true
+unfolding stops
+passed-valid g t c p = not-false (valid g) (p .0)
+
+-- both tables have their lengths
+pub passed-lengths : (g : Geometry) (t : Tables) (c : Call (List ℕ)) → Passed (stops g t c) → (length (t .store) ≡ g .depth) × (length (t .indicators) ≡ indicatorWords g)
+unfolding stops badLengths
+passed-lengths g t c p =
+    let both = and-eq-true-iff _ _ .0 (not-false _ (first-half (badLengths g t) (badMatches g c) (p .1 .0))) in
+    (eqb-true _ _ (both .0), eqb-true _ _ (both .1))
+  where
+    first-half : (a b : Bool) → (a || b) ≡ false → a ≡ false
+    first-half true b h = absurd (true≢false h)
+    first-half false b h = refl
 
 -- a first-match answers with no match word
 first-left : (g : Geometry) (t : Tables) (key : ℕ) (m : List ℕ) → left (firstAnswer g t key) m ≡ m

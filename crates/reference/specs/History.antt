@@ -1,12 +1,10 @@
 -- A history run on tables and on the plain array.
 use Prim.Native.Nat.{ℕ}
-use mathlib.Core.List.{List, [], _∷_, map, zipWith}
-use mathlib.Core.Path.{_≡_}
+use mathlib.Core.List.{List, [], _∷_, map}
 use Rattle.geometry.specs.declared.Geometry.{Geometry}
-use Rattle.reference.specs.Calls.{Call, Answer, shape, lent, left}
+use Rattle.reference.specs.Calls.{Call, Answer, shape}
 use Rattle.reference.specs.Array.{Array, ArrayOutcome, emptied, arrayStep}
 use Rattle.reference.specs.Tables.{Tables}
-use Rattle.reference.specs.Image.{tablesOf}
 use Rattle.reference.specs.Steps.{Outcome, step}
 
 abbrev pub History : Type 0
@@ -33,10 +31,3 @@ arrayAfter g es (c ∷ cs) = arrayAfter g (arrayStep g es c .array) cs
 -- The array of a history: it begins empty, and is fed the shape of each call.
 abbrev pub arrayOf : Geometry → History → Array
 arrayOf g cs = arrayAfter g (emptied g) (map shape cs)
-
--- A history on tables is that of the plain array: every answer; the match word that each call leaves, the lent one after
--- a refusal; and at the end the store and every indicator word, padding bits included.
-pub record Follows (g : Geometry) (t : Tables) (cs : History) : Type 0 where
-  pub answers : map (λ (o : Outcome). o .answer) (run g t cs) ≡ arrayAnswers g (emptied g) (map shape cs)
-  pub matches : map (λ (o : Outcome). o .matches) (run g t cs) ≡ zipWith left (map (λ (o : Outcome). o .answer) (run g t cs)) (map lent cs)
-  pub tables : after g t cs ≡ tablesOf g (arrayOf g cs)

@@ -1,17 +1,15 @@
 -- The tables of an array: its store and its image. An entry covers rows, and the image knows no more of it.
-use Prim.Native.Nat.{ℕ, _+_, _*_, _/_, _%_, _<_}
-use mathlib.Core.Path.{_≡_}
+use Prim.Native.Nat.{ℕ, _+_, _*_, _/_, _%_}
 use mathlib.Core.Bool.{Bool}
 use mathlib.Core.List.{List, [], map}
-use lib.ListN.{length}
 use Rattle.words.specs.Rules.{any, member, tabulate}
 use Rattle.words.specs.Bits.{word}
 use Rattle.geometry.specs.declared.Geometry.{Geometry}
-use Rattle.geometry.specs.Sizes.{sets, rowWords, addressOf}
-use Rattle.geometry.specs.Stages.{rowsOf, rows, indicatorWords}
+use Rattle.geometry.specs.Sizes.{rowWords, addressOf}
+use Rattle.geometry.specs.Stages.{rowsOf, indicatorWords}
 use Rattle.reference.specs.Entry.{Entry, empty, pattern, wordOf}
 use Rattle.reference.specs.Array.{Array, entryAt}
-use Rattle.reference.specs.Tables.{Tables, storeEntry, cell}
+use Rattle.reference.specs.Tables.{Tables}
 
 -- The rows of an entry: those of its pattern.
 unfoldable pub entryRows : Geometry → Entry → List ℕ
@@ -34,10 +32,3 @@ image g es =
 
 unfoldable pub tablesOf : Geometry → Array → Tables
 tablesOf g es = record { store = map wordOf es; indicators = image g es }
-
--- Tables of the right lengths whose indicators mirror the store: every bit that belongs to a set is as the store's entries
--- would have it. Padding bits are free, and so are entries that are no pattern: they cover nothing.
-pub record Mirrors (g : Geometry) (t : Tables) : Type 0 where
-  pub entries : length (t .store) ≡ g .depth
-  pub words : length (t .indicators) ≡ indicatorWords g
-  pub bits : (r s : ℕ) → r < rows g → s < sets g → cell g (t .indicators) r (s / 64) (s % 64) ≡ covered g (storeEntry g t) r s

@@ -8,5 +8,6 @@ pub mod Update
 pub mod Search
 pub mod Steps
 pub mod History
+pub mod Statements
 pub mod Line
 pub mod Cases

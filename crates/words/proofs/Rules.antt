@@ -14,6 +14,12 @@ use lib.Seq.{ext-getD}
 use borrow.Author.Tests.{eqb-true}
 use Rattle.words.specs.Rules.{any, count, member, keep, tabulate, First, Nowhere}
 
+-- two tests that follow from each other are one
+pub both-ways : (a b : Bool) → (a ≡ true → b ≡ true) → (b ≡ true → a ≡ true) → a ≡ b
+both-ways true b p q = sym (p refl)
+both-ways false true p q = q refl
+both-ways false false p q = refl
+
 pub any-witness : (n : ℕ) (r : ℕ → Bool) → any n r ≡ true → (i : ℕ) × (i < n) × (r i ≡ true)
 unfolding any
 any-witness zero r h = absurd (false≢true h)

@@ -1,0 +1,71 @@
+-- What is shown of the steps, in the words of the demands. The theorems are in proofs/; docs/CLAIMS.md names each.
+use Prim.Native.Nat.{ℕ, _+_, _*_, _/_, _%_, _<_}
+use mathlib.Core.Path.{_≡_}
+use mathlib.Core.Logic.{_⊎_}
+use mathlib.Core.Bool.{Bool, cond, not, _&&_, _||_}
+use mathlib.Core.List.{List, map, zipWith}
+use lib.Dec.{eqb}
+use lib.ListN.{length}
+use Rattle.words.specs.Rules.{count, tabulate, First, Nowhere}
+use Rattle.words.specs.Bits.{word}
+use Rattle.geometry.specs.declared.Geometry.{Geometry}
+use Rattle.geometry.specs.Valid.{segmented}
+use Rattle.geometry.specs.Sizes.{sets, rowWords, matchWords, setOf, offsetOf}
+use Rattle.geometry.specs.Stages.{rows, indicatorWords}
+use Rattle.reference.specs.Entry.{Entry, wordOf}
+use Rattle.reference.specs.Calls.{Answer, at, none, matched, shape, lent, left}
+use Rattle.reference.specs.Array.{emptied}
+use Rattle.reference.specs.Tables.{Tables, storeWord, storeEntry, cell, belongs}
+use Rattle.reference.specs.Image.{covers, covered, tablesOf}
+use Rattle.reference.specs.Update.{othersCover}
+use Rattle.reference.specs.Steps.{Outcome}
+use Rattle.reference.specs.History.{History, run, after, arrayAnswers, arrayOf}
+
+-- ---- demand 3
+
+-- A history on tables is that of the plain array: every answer; the match word that each call leaves, the lent one after
+-- a refusal; and at the end the store and every indicator word, padding bits included.
+pub record Follows (g : Geometry) (t : Tables) (cs : History) : Type 0 where
+  pub answers : map (λ (o : Outcome). o .answer) (run g t cs) ≡ arrayAnswers g (emptied g) (map shape cs)
+  pub matches : map (λ (o : Outcome). o .matches) (run g t cs) ≡ zipWith left (map (λ (o : Outcome). o .answer) (run g t cs)) (map lent cs)
+  pub tables : after g t cs ≡ tablesOf g (arrayOf g cs)
+
+-- ---- demand 2, where the indicators mirror the store
+
+-- Tables of the right lengths whose indicators mirror the store: every bit that belongs to a set is as the store's entries
+-- would have it. Padding bits are free, and so are entries that are no pattern: they cover nothing.
+pub record Mirrors (g : Geometry) (t : Tables) : Type 0 where
+  pub entries : length (t .store) ≡ g .depth
+  pub words : length (t .indicators) ≡ indicatorWords g
+  pub bits : (r s : ℕ) → r < rows g → s < sets g → cell g (t .indicators) r (s / 64) (s % 64) ≡ covered g (storeEntry g t) r s
+
+-- Whether the store has the key at an address.
+abbrev pub stores : Tables → (key a : ℕ) → Bool
+stores t key a = eqb (storeWord t a) key
+
+-- A first-match answers with the lowest address that has the key, with document 01's w and c; or none, and no address
+-- has it.
+abbrev pub FirstIs : Geometry → Tables → (key : ℕ) → Answer → Type 0
+FirstIs g t key answer =
+    ((a : ℕ) × First (g .depth) (stores t key) a × (answer ≡ at a (a / (64 * g .«set_width») + 1) (cond (eqb (g .kind) segmented) (offsetOf g a + 1) 0)))
+    ⊎ (Nowhere (g .depth) (stores t key) × (answer ≡ none (rowWords g) 0))
+
+-- An all-match answers with the word in which the bit of each address says whether it has the key, and with their number.
+abbrev pub AllAre : Geometry → Tables → (key : ℕ) → Answer → Type 0
+AllAre g t key answer =
+    answer ≡ matched (tabulate (matchWords g) (λ j. word 64 (λ b. stores t key (64 * j + b)))) (count (g .depth) (stores t key))
+
+-- ---- demand 2, on any tables: what becomes of each bit and entry when e comes to address a
+
+-- The bit of row r in the set of a: set where the new entry covers r; else cleared where the old one covers r and no
+-- other address of the set does; else as it was. Every other bit, padding bits too, is as it was.
+pub record EveryBit (g : Geometry) (t u : Tables) (a : ℕ) (e : Entry) : Type 0 where
+  pub bits : (r j b : ℕ) → j < rowWords g
+      → cell g (u .indicators) r j b
+      ≡ cond (belongs (setOf g a) j b)
+      (covers g e r || (not (covers g (storeEntry g t a) r && not (othersCover g t a r)) && cell g (t .indicators) r j b))
+      (cell g (t .indicators) r j b)
+  pub words : length (u .indicators) ≡ length (t .indicators)
+  pub entry : storeWord u a ≡ wordOf e
+  pub others : (b : ℕ) → (b ≡ a → ⊥) → storeWord u b ≡ storeWord t b
+  pub entries : length (u .store) ≡ length (t .store)

@@ -44,9 +44,6 @@ module _ (g : Geometry) (f : Facts g) where
   unfolding stageWidth
   width-last k e = rw (le-ltb (k + 1) (stages g) (omega arith))
 
-  inner-lt : (k p : ℕ) → k + 1 < stages g → stage g k p < 512
-  inner-lt k p h = rw (width-inner k h) at (stage-lt k p)
-
   -- a pattern from stage k on: the stages above k and below them stage k, or the last stage alone
   inner : (k p : ℕ) → k + 1 < stages g → p / 2 ^ (9 * k) ≡ p / 2 ^ (9 * suc k) * 512 + stage g k p
   unfolding stage
@@ -67,15 +64,16 @@ module _ (g : Geometry) (f : Facts g) where
       from zero k e = last k p (omega arith) hp ∙ h k (omega arith) ∙ sym (last k q (omega arith) hq)
       from (suc left) k e = omega (arith, inner k p (omega arith), inner k q (omega arith), h k (omega arith), from left (suc k) (omega arith))
 
-  pub row-lt : (p k : ℕ) → k < stages g → rowOf g p k < rows g
-  unfolding rowOf rows
-  row-lt p k h = go (ltb (k + 1) (stages g)) refl
+  -- every row of every stage is a row of the indicators
+  pub row-lt : (k x : ℕ) → k < stages g → x < 2 ^ stageWidth g k → 512 * k + x < rows g
+  unfolding rows
+  row-lt k x h small = go (ltb (k + 1) (stages g)) refl
     where
-      go : (b : Bool) → ltb (k + 1) (stages g) ≡ b → 512 * k + stage g k p < 512 * (stages g - 1) + 2 ^ stageWidth g (stages g - 1)
-      go true t = let below = ltb-true (k + 1) (stages g) t in omega (arith, inner-lt k p below)
+      go : (b : Bool) → ltb (k + 1) (stages g) ≡ b → 512 * k + x < 512 * (stages g - 1) + 2 ^ stageWidth g (stages g - 1)
+      go true t = let below = ltb-true (k + 1) (stages g) t in omega (arith, rw (width-inner k below) at small)
       go false t =
           let e : stages g - 1 ≡ k = omega (arith, ltb-false (k + 1) (stages g) t) in
-          rw e (omega (arith, stage-lt k p))
+          rw e (omega arith)
 
   -- a value of a stage that is not the last is below 512, so a row number tells its stage and its row there
   stage-le : (k l x y : ℕ) → l < stages g → x < 2 ^ stageWidth g k → 512 * k + x ≡ 512 * l + y → l ≤ k
@@ -101,6 +99,11 @@ module _ (g : Geometry) (f : Facts g) where
           let same = eqb-true (512 * k + x) (512 * l + stage g l p) e in
           let k-is : k ≡ l = row-stage k l x (stage g l p) h m small (stage-lt l p) same in
           eq-eqb x (stage g k p) (omega (arith, rw (← k-is) at same))
+
+  -- only the cascaded kind has more than one stage
+  pub one-stage-kind : eqb (g .kind) cascaded ≡ false → stages g ≡ 1
+  unfolding stages
+  one-stage-kind e = rw e
 
   -- where there is one stage, it is the whole pattern, and the pattern is its row
   pub one-stage : (p : ℕ) → stages g ≡ 1 → p < patterns g → rowsOf g p ≡ (p ∷ [])

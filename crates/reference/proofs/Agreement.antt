@@ -82,7 +82,7 @@ module _ (g : Geometry) (ok : valid g ≡ true) (es : Array) (sound : Sound g es
       go empty h = refl
       go (pattern p) h = rw (lt-ltb p (patterns g) (h p refl), or-true (eqb p emptyWord))
 
-  same-stops : (c : Call (List ℕ)) → firstStop (stops g (tablesOf g es) c) ≡ firstStop (arrayStops g (shape c))
+  pub same-stops : (c : Call (List ℕ)) → firstStop (stops g (tablesOf g es) c) ≡ firstStop (arrayStops g (shape c))
   unfolding stops firstStop ownStops arrayStops shape badMatches
   same-stops c = rw (ok, lengths-pass) (go c)
     where

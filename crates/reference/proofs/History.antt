@@ -3,7 +3,7 @@
 -- `agrees` for each.
 use Prim.Native.Nat.{ℕ, _≤_}
 use mathlib.Core.Path.{_≡_, refl, sym, ap, ap₂, _∙_}
-use mathlib.Core.Logic.{_↔_}
+use mathlib.Core.Logic.{_↔_, _⊎_, inl, inr}
 use mathlib.Core.Bool.{Bool, true, false, not}
 use mathlib.Core.List.{List, [], _∷_, map, zipWith}
 use mathlib.Core.Option as Option
@@ -15,18 +15,18 @@ use Rattle.geometry.specs.declared.Geometry.{Geometry}
 use Rattle.geometry.specs.Valid.{valid}
 use Rattle.geometry.proofs.Facts.{facts}
 use Rattle.reference.specs.Entry.{Entry, empty}
-use Rattle.reference.specs.Calls.{Call, clear, shape, lent, left, Answer, cleared}
-use Rattle.reference.specs.Stops.{firstStop, Passed}
+use Rattle.reference.specs.Calls.{Call, clear, write, erase, read, firstMatch, allMatch, shape, lent, left, Answer, refused, cleared}
+use Rattle.reference.specs.Stops.{Stop, _given-when_, firstStop, Passed, FirstApplies}
 use Rattle.reference.specs.Array.{Array, emptied, entryAt, arrayStops, arrayAccepted, arrayOutcome, arrayStep}
 use Rattle.reference.specs.Tables.{Tables, storeEntry}
 use Rattle.reference.specs.Image.{tablesOf}
-use Rattle.reference.specs.Steps.{stops, accepted, outcome, step, Outcome}
+use Rattle.reference.specs.Steps.{badMatches, stops, accepted, outcome, step, Outcome}
 use Rattle.reference.specs.History.{History, run, after, arrayAnswers, arrayAfter, arrayOf}
 use Rattle.reference.specs.Statements.{Follows}
 use Rattle.reference.proofs.Image.{Sound, store-entry}
 use Rattle.reference.proofs.Emptied.{emptied-sound, cleared-tables}
-use Rattle.reference.proofs.Stopped.{passed-none, not-stopped, passed-valid, match-word-left}
-use Rattle.reference.proofs.Agreement.{Agrees, agrees}
+use Rattle.reference.proofs.Stopped.{passed-none, stop-first, first-stop, given-exactly, not-stopped, passed-valid, match-word-left}
+use Rattle.reference.proofs.Agreement.{same-stops, agrees}
 
 -- ---- from the tables of an array on
 
@@ -93,3 +93,39 @@ equal-tables g t u cs ds e d =
     let p = history g t cs e .tables in
     let q = history g u ds d .tables in
     (λ same. array-told g (clear-valid g t e) _ _ (array-sound g t cs e) (array-sound g u ds d) (sym p ∙ same ∙ q), λ same. p ∙ ap (tablesOf g) same ∙ sym q)
+
+-- ---- which numbers a later call can get
+
+-- every row says P of its number where its test holds
+abbrev Each : (ℕ → Type 0) → List Stop → Type 0
+Each P [] = Unit
+Each P ((n given-when test) ∷ rest) = (test ≡ true → P n) × Each P rest
+
+-- in such a history a call is stopped by the plain array's rows and by no other
+pub later-stops : (g : Geometry) (t : Tables) (cs : History) (c : Call (List ℕ)) (n : ℕ) → step g t clear .answer ≡ cleared
+    → step g (after g t (clear ∷ cs)) c .answer ≡ refused n → FirstApplies (arrayStops g (shape c)) n
+later-stops g t cs c n e h =
+    let p = history g t cs e .tables in
+    let given = first-stop _ n (given-exactly g (tablesOf g (arrayOf g (clear ∷ cs))) c n .0 (rw p at h)) in
+    stop-first _ n (sym (same-stops g (clear-valid g t e) _ (array-sound g t cs e) c) ∙ given)
+
+-- what each row says when its test holds, the row that is given says
+given-says : (P : ℕ → Type 0) (rows : List Stop) (n : ℕ) → Each P rows → firstStop rows ≡ Option.some n → P n
+unfolding firstStop
+given-says P [] n each e = absurd (let z : _≡_ {A = ℕ} 0 1 = cc in omega arith)
+given-says P ((m given-when true) ∷ rest) n each e = let same : m ≡ n = cc in rw same at (each .0 refl)
+given-says P ((m given-when false) ∷ rest) n each e = given-says P rest n (each .1) e
+
+-- So 1, 5 and 6 do not occur after an accepted clear, and 2 only for a match word of wrong length.
+pub later-numbers : (g : Geometry) (t : Tables) (cs : History) (c : Call (List ℕ)) (n : ℕ) → step g t clear .answer ≡ cleared
+    → step g (after g t (clear ∷ cs)) c .answer ≡ refused n → (n ≡ 3) ⊎ ((n ≡ 4) ⊎ ((n ≡ 2) × (badMatches g c ≡ true)))
+unfolding arrayStops shape badMatches
+later-numbers g t cs c n e h = given-says _ (arrayStops g (shape c)) n (each c) (first-stop _ n (later-stops g t cs c n e h))
+  where
+    each : (c : Call (List ℕ)) → Each (λ n. (n ≡ 3) ⊎ ((n ≡ 4) ⊎ ((n ≡ 2) × (badMatches g c ≡ true)))) (arrayStops g (shape c))
+    each clear = tt
+    each (write a p) = (λ b. inl refl, (λ b. inr (inl refl), tt))
+    each (erase a) = (λ b. inl refl, tt)
+    each (read a) = (λ b. inl refl, tt)
+    each (firstMatch key) = (λ b. inr (inl refl), tt)
+    each (allMatch key m) = (λ b. inr (inr (refl, b)), (λ b. inr (inl refl), tt))

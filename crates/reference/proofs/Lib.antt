@@ -9,4 +9,6 @@ pub mod Stopped
 pub mod Emptied
 pub mod Agreement
 pub mod History
+pub mod Paper
+pub mod Line
 pub mod Cases

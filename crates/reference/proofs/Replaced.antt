@@ -13,10 +13,10 @@ use Rattle.words.specs.Bits.{setBit}
 use Rattle.words.proofs.Rules.{any-witness, member-tabulate, member-keep}
 use Rattle.geometry.specs.declared.Geometry.{Geometry}
 use Rattle.geometry.specs.Sizes.{sets, rowWords, setOf}
-use Rattle.geometry.specs.Stages.{stages, rowOf, rowsOf, rows, indicatorWords}
+use Rattle.geometry.specs.Stages.{stages, stage, rowOf, rowsOf, rows, indicatorWords}
 use Rattle.geometry.proofs.Facts.{Facts, facts}
 use Rattle.geometry.proofs.Places.{set-lt}
-use Rattle.geometry.proofs.Stages.{row-lt}
+use Rattle.geometry.proofs.Stages.{stage-lt, row-lt}
 use Rattle.reference.specs.Entry.{Entry, empty, pattern, wordOf}
 use Rattle.reference.specs.Calls.{Call, write, erase, held}
 use Rattle.reference.specs.Stops.{Passed, badAddress}
@@ -30,11 +30,11 @@ use Rattle.reference.proofs.Cells.{length-change, set-cell, clear-cell}
 
 -- what an entry covers is a row of the indicators
 pub covers-lt : (g : Geometry) → Facts g → (e : Entry) (r : ℕ) → covers g e r ≡ true → r < rows g
-unfolding covers entryRows member rowsOf
+unfolding covers entryRows member rowsOf rowOf
 covers-lt g f empty r h = absurd (false≢true h)
 covers-lt g f (pattern p) r h =
     let w = any-witness (stages g) (λ k. eqb r (rowOf g p k)) (sym (member-tabulate r (stages g) (rowOf g p)) ∙ h) in
-    rw (eqb-true r (rowOf g p (w .0)) (w .2)) (row-lt g f p (w .0) (w .1))
+    rw (eqb-true r (rowOf g p (w .0)) (w .2)) (row-lt g f (w .0) (stage g (w .0) p) (w .1) (stage-lt g f (w .0) p))
 
 pub replaced-bits : (g : Geometry) → Facts g → (t : Tables) (a : ℕ) (e : Entry) → a < g .depth → length (t .store) ≡ g .depth → length (t .indicators) ≡ indicatorWords g
     → EveryBit g t (replaced g t a e) a e
@@ -85,10 +85,15 @@ module _ (g : Geometry) (t : Tables) (c : Call (List ℕ)) (a : ℕ) (e : Entry)
       rw (passed-none (stops g t c) passed, puts) (replaced-bits g (facts g (passed-valid g t c passed)) t a e (leb-false (g .depth) a inside) (lengths .0) (lengths .1))
 
 -- Every accepted write and every accepted erase.
+pub write-passed : (g : Geometry) (t : Tables) (a p : ℕ) (e : Entry) → step g t (write a p) .answer ≡ held e → Passed (stops g t (write a p))
+write-passed g t a p e h = not-stopped g t (write a p) (held e) (λ n q. let z : _≡_ {A = ℕ} 0 1 = cc in omega arith) h
+
 pub write-bits : (g : Geometry) (t : Tables) (a p : ℕ) (e : Entry) → step g t (write a p) .answer ≡ held e → EveryBit g t (step g t (write a p) .tables) a (pattern p)
 unfolding stops ownStops accepted
-write-bits g t a p e h = let passed = not-stopped g t (write a p) (held e) (λ n q. let z : _≡_ {A = ℕ} 0 1 = cc in omega arith) h in puts-bits g t (write a p) a (pattern p) passed (passed .1 .1 .0) refl
+write-bits g t a p e h = let passed = write-passed g t a p e h in puts-bits g t (write a p) a (pattern p) passed (passed .1 .1 .0) refl
 
 pub erase-bits : (g : Geometry) (t : Tables) (a : ℕ) (e : Entry) → step g t (erase a) .answer ≡ held e → EveryBit g t (step g t (erase a) .tables) a empty
 unfolding stops ownStops accepted
-erase-bits g t a e h = let passed = not-stopped g t (erase a) (held e) (λ n q. let z : _≡_ {A = ℕ} 0 1 = cc in omega arith) h in puts-bits g t (erase a) a empty passed (passed .1 .1 .0) refl
+erase-bits g t a e h =
+    let passed = not-stopped g t (erase a) (held e) (λ n q. let z : _≡_ {A = ℕ} 0 1 = cc in omega arith) h in
+    puts-bits g t (erase a) a empty passed (passed .1 .1 .0) refl

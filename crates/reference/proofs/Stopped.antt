@@ -39,7 +39,7 @@ pub passed-none : (rows : List Stop) → Passed rows → firstStop rows ≡ Opti
 unfolding firstStop
 passed-none rows p = ap firstStop (sym (append-nil rows)) ∙ below-passed rows [] p
 
-stop-first : (rows : List Stop) (n : ℕ) → firstStop rows ≡ Option.some n → FirstApplies rows n
+pub stop-first : (rows : List Stop) (n : ℕ) → firstStop rows ≡ Option.some n → FirstApplies rows n
 unfolding firstStop
 stop-first [] n e = absurd (let z : _≡_ {A = ℕ} 0 1 = cc in omega arith)
 stop-first ((m given-when true) ∷ rest) n e =
@@ -49,7 +49,7 @@ stop-first ((m given-when false) ∷ rest) n e =
     let f = stop-first rest n e in
     record { above = m given-when false ∷ f .above; below = f .below; split = ap (λ r. m given-when false ∷ r) (f .split); passed = (refl, f .passed) }
 
-first-stop : (rows : List Stop) (n : ℕ) → FirstApplies rows n → firstStop rows ≡ Option.some n
+pub first-stop : (rows : List Stop) (n : ℕ) → FirstApplies rows n → firstStop rows ≡ Option.some n
 unfolding firstStop
 first-stop rows n f = rw (f .split) (below-passed (f .above) (n given-when true ∷ f .below) (f .passed))
 

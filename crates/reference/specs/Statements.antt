@@ -1,18 +1,18 @@
 -- What is shown of the steps, in the words of the demands. The theorems are in proofs/; docs/CLAIMS.md names each.
-use Prim.Native.Nat.{ℕ, _+_, _*_, _/_, _%_, _<_}
+use Prim.Native.Nat.{ℕ, _+_, _*_, _/_, _%_, _^_, _<_}
 use mathlib.Core.Path.{_≡_}
 use mathlib.Core.Logic.{_⊎_}
-use mathlib.Core.Bool.{Bool, cond, not, _&&_, _||_}
+use mathlib.Core.Bool.{Bool, false, cond, not, _&&_, _||_}
 use mathlib.Core.List.{List, map, zipWith}
 use lib.Dec.{eqb}
 use lib.ListN.{length}
-use Rattle.words.specs.Rules.{count, tabulate, First, Nowhere}
+use Rattle.words.specs.Rules.{any, count, tabulate, First, Nowhere}
 use Rattle.words.specs.Bits.{word}
 use Rattle.geometry.specs.declared.Geometry.{Geometry}
 use Rattle.geometry.specs.Valid.{segmented}
-use Rattle.geometry.specs.Sizes.{sets, rowWords, matchWords, setOf, offsetOf}
-use Rattle.geometry.specs.Stages.{rows, indicatorWords}
-use Rattle.reference.specs.Entry.{Entry, wordOf}
+use Rattle.geometry.specs.Sizes.{sets, rowWords, matchWords, setOf, offsetOf, addressOf}
+use Rattle.geometry.specs.Stages.{stages, stageWidth, stage, rows, indicatorWords}
+use Rattle.reference.specs.Entry.{Entry, empty, pattern, wordOf, holds}
 use Rattle.reference.specs.Calls.{Answer, at, none, matched, shape, lent, left}
 use Rattle.reference.specs.Array.{emptied}
 use Rattle.reference.specs.Tables.{Tables, storeWord, storeEntry, cell, belongs}
@@ -69,3 +69,35 @@ pub record EveryBit (g : Geometry) (t u : Tables) (a : ℕ) (e : Entry) : Type 0
   pub entry : storeWord u a ≡ wordOf e
   pub others : (b : ℕ) → (b ≡ a → ⊥) → storeWord u b ≡ storeWord t b
   pub entries : length (u .store) ≡ length (t .store)
+
+-- ---- the same in document 01's own sentences, kind by kind
+
+-- Whether another address of a's set holds the pattern r.
+unfoldable pub othersHold : Geometry → Tables → (a r : ℕ) → Bool
+othersHold g t a r =
+    any (g .«set_width») (λ o. not (eqb (addressOf g (setOf g a) o) a) && holds (storeEntry g t (addressOf g (setOf g a) o)) r)
+
+-- Kinds 0 and 2. In a's set the bit of r is set where the new entry is r, and cleared "exactly when q is a pattern other
+-- than p and no other address of the set holds q"; an erase's new entry is empty and sets nothing. No other bit changes.
+abbrev pub PatternBits : Geometry → (before after : Tables) → ℕ → Entry → Type 0
+PatternBits g t u a e =
+    (r j b : ℕ) → j < rowWords g
+    → cell g (u .indicators) r j b
+    ≡ cond (belongs (setOf g a) j b)
+    (holds e r || (not (holds (storeEntry g t a) r && not (othersHold g t a r)) && cell g (t .indicators) r j b))
+    (cell g (t .indicators) r j b)
+
+-- Whether an entry is a pattern whose stage k is x.
+unfoldable pub holdsStage : Geometry → (k x : ℕ) → Entry → Bool
+holdsStage g k x empty = false
+holdsStage g k x (pattern p) = eqb x (stage g k p)
+
+-- Kind 1. "Each slice sets row p_k and, if q is a pattern, clears row q_k where the two differ"; an erase clears row q_k
+-- in every slice. No other bit changes, and no other address shares the set.
+abbrev pub StageBits : Geometry → (before after : Tables) → ℕ → Entry → Type 0
+StageBits g t u a e =
+    (k x j b : ℕ) → k < stages g → x < 2 ^ stageWidth g k → j < rowWords g
+    → cell g (u .indicators) (512 * k + x) j b
+    ≡ cond (belongs (setOf g a) j b)
+    (holdsStage g k x e || (not (holdsStage g k x (storeEntry g t a)) && cell g (t .indicators) (512 * k + x) j b))
+    (cell g (t .indicators) (512 * k + x) j b)

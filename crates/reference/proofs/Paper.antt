@@ -1,0 +1,146 @@
+-- Document 01's own sentences on the bits of each kind, as instances of the one rule by rows: in kinds 0 and 2 a row is a
+-- pattern, in kind 1 it is a value of a stage.
+use Prim.Native.Nat.{ℕ, _+_, _*_, _/_, _%_, _^_, _<_, _≤_}
+use mathlib.Core.Path.{_≡_, refl, sym, ap, _∙_}
+use mathlib.Core.Bool.{Bool, true, false, cond, not, _&&_, _||_, and-true, and-false, or-false}
+use mathlib.Core.List.{[], _∷_}
+use native.Mathlib.Omega.{arith}
+use lib.Dec.{eqb, ltb}
+use lib.ListN.{length, List·getD-eq-default}
+use borrow.Author.Tests.{ltb-true, lt-ltb, leb-false, eqb-true, eq-eqb}
+use Rattle.words.specs.Rules.{any, member}
+use Rattle.words.proofs.Rules.{both-ways, any-ext, any-false}
+use Rattle.geometry.specs.declared.Geometry.{Geometry}
+use Rattle.geometry.specs.Valid.{valid, cascaded}
+use Rattle.geometry.specs.Sizes.{patterns, sets, rowWords, setOf, offsetOf, addressOf}
+use Rattle.geometry.specs.Stages.{stages, stageWidth, stage, rowOf, rowsOf, rows}
+use Rattle.geometry.proofs.Facts.{Facts, facts}
+use Rattle.geometry.proofs.Places.{offset-lt, address-past, address-of, word-lt}
+use Rattle.geometry.proofs.Stages.{row-lt, row-among, one-stage-kind, one-stage}
+use Rattle.reference.specs.Entry.{Entry, empty, pattern, entryOf, holds}
+use Rattle.reference.specs.Calls.{write, erase, held}
+use Rattle.reference.specs.Stops.{badPattern}
+use Rattle.reference.specs.Array.{Array, entryAt}
+use Rattle.reference.specs.Tables.{Tables, storeWord, storeEntry, cell, belongs}
+use Rattle.reference.specs.Image.{covers, covered, entryRows, image}
+use Rattle.reference.specs.Update.{othersCover}
+use Rattle.reference.specs.Steps.{ownStops, stops, step}
+use Rattle.reference.specs.Statements.{EveryBit, holdsStage, othersHold, PatternBits, StageBits}
+use Rattle.reference.proofs.Replaced.{covers-lt, write-passed, write-bits, erase-bits}
+use Rattle.reference.proofs.Image.{Sound, image-cell}
+
+-- what a word of the store holds is a pattern of the geometry
+word-fits : (g : Geometry) (w p : ℕ) → entryOf g w ≡ pattern p → p < patterns g
+unfolding entryOf
+word-fits g w p = go (ltb w (patterns g)) refl
+  where
+    go : (b : Bool) → ltb w (patterns g) ≡ b → cond b (pattern w) empty ≡ pattern p → p < patterns g
+    go true e h = let same : w ≡ p = cc in omega (arith, ltb-true w (patterns g) e)
+    go false e h = absurd (let z : _≡_ {A = ℕ} 0 1 = cc in omega arith)
+
+-- "Slice k starts at word R × 512 × k; its row r begins R × r words later."
+pub stage-starts : (g : Geometry) (k r j : ℕ) → rowWords g * (512 * k + r) + j ≡ rowWords g * 512 * k + rowWords g * r + j
+stage-starts g k r j = omega arith
+
+-- past the last set there is no address to cover a row
+uncovered : (g : Geometry) → Facts g → (es : Array) → Sound g es → (r s : ℕ) → sets g ≤ s → covered g (entryAt es) r s ≡ false
+unfolding covered covers entryRows member
+uncovered g f es sound r s past =
+    any-false (g .«set_width») _
+    (λ o l. rw (List·getD-eq-default es empty {n = addressOf g s o} (rw (sound .long) (address-past g f s o past))))
+
+-- "Spare bits are 0."
+pub image-padding : (g : Geometry) → valid g ≡ true → (es : Array) → Sound g es → (r j b : ℕ) → r < rows g → j < rowWords g → sets g ≤ 64 * j + b
+    → cell g (image g es) r j b ≡ false
+image-padding g ok es sound r j b hr hj past =
+    image-cell g (facts g ok) es sound r j b hr hj ∙ rw (uncovered g (facts g ok) es sound r (64 * j + b) past) (and-false (ltb b 64))
+
+-- the bit of a row and a set, as the image has it
+image-bit : (g : Geometry) → valid g ≡ true → (es : Array) → Sound g es → (r s : ℕ) → r < rows g → s < sets g
+    → cell g (image g es) r (s / 64) (s % 64) ≡ covered g (entryAt es) r s
+image-bit g ok es sound r s hr hs =
+    image-cell g (facts g ok) es sound r (s / 64) (s % 64) hr (word-lt g (facts g ok) s hs)
+    ∙ rw (lt-ltb (s % 64) 64 (omega arith)) (ap (covered g (entryAt es) r) (omega arith))
+
+-- ---- kinds 0 and 2
+
+module _ (g : Geometry) (ok : valid g ≡ true) (kind : eqb (g .kind) cascaded ≡ false) where
+  -- "one row for each pattern"
+  pub row-of-pattern : (p : ℕ) → p < patterns g → rowsOf g p ≡ (p ∷ [])
+  row-of-pattern p h = one-stage g (facts g ok) p (one-stage-kind g (facts g ok) kind) h
+
+  covers-pattern : (e : Entry) → ((p : ℕ) → e ≡ pattern p → p < patterns g) → (r : ℕ) → covers g e r ≡ holds e r
+  unfolding covers entryRows holds member
+  covers-pattern empty fits r = refl
+  covers-pattern (pattern p) fits r =
+      rw (row-of-pattern p (fits p refl), or-false (eqb r p))
+      (both-ways (eqb r p) (eqb p r) (λ e. eq-eqb p r (sym (eqb-true r p e))) (λ e. eq-eqb r p (sym (eqb-true p r e))))
+
+  -- "the bit of row p and set s is 1 exactly when some address in set s holds p"
+  pub image-pattern : (es : Array) → Sound g es → (p s : ℕ) → p < patterns g → s < sets g
+      → cell g (image g es) p (s / 64) (s % 64) ≡ any (g .«set_width») (λ o. holds (entryAt es (addressOf g s o)) p)
+  unfolding covered holds
+  image-pattern es sound p s hp hs =
+      image-bit g ok es sound p s inside hs
+      ∙ any-ext (g .«set_width») _ _ (λ o l. covers-pattern (entryAt es (addressOf g s o)) (sound .fits (addressOf g s o)) p)
+    where
+      inside : p < rows g
+      inside = covers-lt g (facts g ok) (pattern p) p (covers-pattern (pattern p) (λ q e. let same : p ≡ q = cc in omega arith) p ∙ eq-eqb p p refl)
+
+  pattern-bits : (t u : Tables) (a : ℕ) (e : Entry) → ((p : ℕ) → e ≡ pattern p → p < patterns g) → EveryBit g t u a e → PatternBits g t u a e
+  unfolding othersCover othersHold
+  pattern-bits t u a e fits every r j b hj =
+      every .bits r j b hj
+      ∙ rw (covers-pattern e fits r, covers-pattern (storeEntry g t a) (word-fits g (storeWord t a)) r, others)
+    where
+      others : othersCover g t a r ≡ othersHold g t a r
+      others =
+          any-ext (g .«set_width») _ _
+          (λ o l. ap (λ x. not (eqb (addressOf g (setOf g a) o) a) && x) (covers-pattern (storeEntry g t (addressOf g (setOf g a) o)) (word-fits g (storeWord t (addressOf g (setOf g a) o))) r))
+
+  pub write-patterns : (t : Tables) (a p : ℕ) (e : Entry) → step g t (write a p) .answer ≡ held e → PatternBits g t (step g t (write a p) .tables) a (pattern p)
+  unfolding stops ownStops badPattern
+  write-patterns t a p e h = pattern-bits t _ a (pattern p) (λ q same. let is : p ≡ q = cc in omega (arith, small)) (write-bits g t a p e h)
+    where
+      small : p < patterns g
+      small = leb-false (patterns g) p (write-passed g t a p e h .1 .1 .1 .0)
+
+  pub erase-patterns : (t : Tables) (a : ℕ) (e : Entry) → step g t (erase a) .answer ≡ held e → PatternBits g t (step g t (erase a) .tables) a empty
+  erase-patterns t a e h = pattern-bits t _ a empty (λ q same. absurd (let z : _≡_ {A = ℕ} 0 1 = cc in omega arith)) (erase-bits g t a e h)
+
+-- ---- kind 1
+
+module _ (g : Geometry) (ok : valid g ≡ true) (kind : eqb (g .kind) cascaded ≡ true) where
+  covers-stage : (e : Entry) (k x : ℕ) → k < stages g → x < 2 ^ stageWidth g k → covers g e (512 * k + x) ≡ holdsStage g k x e
+  unfolding covers entryRows holdsStage member
+  covers-stage empty k x hk hx = refl
+  covers-stage (pattern p) k x hk hx = row-among g (facts g ok) k x p hk hx
+
+  -- "of row p_k in slice k": 1 exactly when some address in set s "holds a pattern whose slice k is p_k"
+  pub image-stage : (es : Array) → Sound g es → (k x s : ℕ) → k < stages g → x < 2 ^ stageWidth g k → s < sets g
+      → cell g (image g es) (512 * k + x) (s / 64) (s % 64) ≡ any (g .«set_width») (λ o. holdsStage g k x (entryAt es (addressOf g s o)))
+  unfolding covered
+  image-stage es sound k x s hk hx hs =
+      image-bit g ok es sound (512 * k + x) s (row-lt g (facts g ok) k x hk hx) hs
+      ∙ any-ext (g .«set_width») _ _ (λ o l. covers-stage (entryAt es (addressOf g s o)) k x hk hx)
+
+  stage-bits : (t u : Tables) (a : ℕ) (e : Entry) → EveryBit g t u a e → StageBits g t u a e
+  unfolding othersCover
+  stage-bits t u a e every k x j b hk hx hj =
+      every .bits (512 * k + x) j b hj
+      ∙ rw (covers-stage e k x hk hx, covers-stage (storeEntry g t a) k x hk hx, alone, and-true (holdsStage g k x (storeEntry g t a)))
+    where
+      alone : othersCover g t a (512 * k + x) ≡ false
+      alone = any-false (g .«set_width») _ (λ o l. itself o l)
+        where
+          itself : (o : ℕ) → o < g .«set_width» → (not (eqb (addressOf g (setOf g a) o) a) && covers g (storeEntry g t (addressOf g (setOf g a) o)) (512 * k + x)) ≡ false
+          itself o l =
+              let one : g .«set_width» ≡ 1 = facts g ok .alone (rw (eqb-true (g .kind) cascaded kind)) in
+              let only : o ≡ offsetOf g a = omega (arith, offset-lt g (facts g ok) a) in
+              rw (eq-eqb (addressOf g (setOf g a) o) a (rw only (address-of g (facts g ok) a)))
+
+  pub write-stages : (t : Tables) (a p : ℕ) (e : Entry) → step g t (write a p) .answer ≡ held e → StageBits g t (step g t (write a p) .tables) a (pattern p)
+  write-stages t a p e h = stage-bits t _ a (pattern p) (write-bits g t a p e h)
+
+  pub erase-stages : (t : Tables) (a : ℕ) (e : Entry) → step g t (erase a) .answer ≡ held e → StageBits g t (step g t (erase a) .tables) a empty
+  erase-stages t a e h = stage-bits t _ a empty (erase-bits g t a e h)

@@ -1,7 +1,7 @@
 -- The stages of a pattern (document 01: slices) and the rows that a pattern has. Rows are numbered through all stages,
 -- row r of stage k being 512 * k + r, so word j of a row stands at its number times the words of a row, plus j.
 use Prim.Native.Nat.{ℕ, _+_, _-_, _*_, _/_, _%_, _^_}
-use mathlib.Core.Bool.{Bool, cond}
+use mathlib.Core.Bool.{cond}
 use mathlib.Core.List.{List}
 use lib.Dec.{eqb, ltb}
 use Rattle.words.specs.Rules.{tabulate}

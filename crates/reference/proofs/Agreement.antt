@@ -1,35 +1,35 @@
 -- One call on the tables of an array agrees with the same call on the array: answer, tables and refusal number.
-use Prim.Native.Nat.{ℕ, zero, suc, _+_, _*_, _<_}
+use Prim.Native.Nat.{ℕ, _+_, _*_, _<_}
 use mathlib.Core.Path.{_≡_, refl, sym, ap, ap₂, _∙_}
 use mathlib.Core.Logic.{_⊎_, inl, inr}
-use mathlib.Core.Bool.{Bool, true, false, cond, not, _&&_, _||_, and-false, or-true, false≢true}
-use mathlib.Core.List.{List, [], _∷_, _++_, map}
+use mathlib.Core.Bool.{Bool, true, false, not, _||_, or-true, false≢true}
+use mathlib.Core.List.{List, [], _∷_, _++_}
 use mathlib.Core.Option as Option
 use mathlib.Core.Option.{Option}
 use native.Mathlib.Nat.{zero-add}
 use native.Mathlib.Omega.{arith}
-use lib.Dec.{eqb, ltb, leb}
-use lib.ListN.{length, getD, set, replicate, length-set, length-replicate, getD-replicate, List·getD-eq-default}
+use lib.Dec.{eqb, ltb}
+use lib.ListN.{length, set, length-set}
 use lib.Seq.{getD-set-same, getD-set-other}
-use borrow.Author.Tests.{ltb-true, ltb-false, leb-false, lt-ltb, eqb-true, eqb-false, eq-eqb}
-use Rattle.words.specs.Rules.{any, count, member, tabulate, First, Nowhere}
-use Rattle.words.specs.Bits.{bit, word, totalOnes}
-use Rattle.words.proofs.Rules.{any-false, count-ext, list-tabulate, tabulate-ext, first-unique}
-use Rattle.words.proofs.Bits.{bits-equal, bit-zero, bit-word-all, word-ext}
+use borrow.Author.Tests.{lt-ltb, eqb-true, eqb-false, eq-eqb}
+use Rattle.words.specs.Rules.{count, First, Nowhere}
+use Rattle.words.specs.Bits.{totalOnes}
+use Rattle.words.proofs.Rules.{count-ext, tabulate-ext, first-unique}
+use Rattle.words.proofs.Bits.{word-ext}
 use Rattle.geometry.specs.declared.Geometry.{Geometry}
 use Rattle.geometry.specs.Valid.{valid}
-use Rattle.geometry.specs.Sizes.{patterns, rowWords, matchWords}
-use Rattle.geometry.specs.Stages.{indicatorWords}
+use Rattle.geometry.specs.Sizes.{patterns, matchWords}
 use Rattle.geometry.proofs.Facts.{Facts, facts}
 use Rattle.reference.specs.Entry.{Entry, empty, pattern, emptyWord, wordOf, holds}
-use Rattle.reference.specs.Calls.{Call, clear, write, erase, read, firstMatch, allMatch, shape, Answer, held, matched}
+use Rattle.reference.specs.Calls.{Call, clear, write, erase, read, firstMatch, allMatch, shape, held, matched}
 use Rattle.reference.specs.Stops.{Stop, _given-when_, firstStop, Passed, badAddress, badPattern}
-use Rattle.reference.specs.Array.{Array, emptied, entryAt, lowest, counted, matchesOf, hits, arrayStops, ArrayOutcome, arrayAccepted, arrayOutcome, arrayStep}
-use Rattle.reference.specs.Tables.{Tables, storeWord, storeEntry}
-use Rattle.reference.specs.Image.{covers, entryRows, covered, image, tablesOf}
+use Rattle.reference.specs.Array.{Array, entryAt, lowest, counted, matchesOf, hits, arrayStops, ArrayOutcome, arrayAccepted, arrayOutcome, arrayStep}
+use Rattle.reference.specs.Tables.{storeWord}
+use Rattle.reference.specs.Image.{tablesOf}
 use Rattle.reference.specs.Search.{firstAnswer, takenWords}
 use Rattle.reference.specs.Statements.{FirstIs}
 use Rattle.reference.specs.Steps.{badLengths, badMatches, badEntry, ownStops, stops, Outcome, accepted, outcome, step}
+use Rattle.reference.proofs.Limits.{address-passes, pattern-passes}
 use Rattle.reference.proofs.Covering.{holds-word}
 use Rattle.reference.proofs.Mirrored.{first-is, first-not-false, none-false, all-are, all-counted}
 use Rattle.reference.proofs.Image.{Sound, store-word, store-entry, store-long, indicators-long, image-mirrors, replaced-image}
@@ -47,12 +47,12 @@ last-passes ((m given-when false) ∷ rows) n = last-passes rows n
 -- a last row that does not apply where the pattern's row does not
 key-passes : (g : Geometry) (key n : ℕ) (test : Bool) → (key < patterns g → test ≡ false) → (rows : List Stop)
     → firstStop (rows ++ (4 given-when badPattern g key ∷ n given-when test ∷ [])) ≡ firstStop (rows ++ (4 given-when badPattern g key ∷ []))
-unfolding firstStop badPattern
-key-passes g key n test h [] = go (leb (patterns g) key) refl
+unfolding firstStop
+key-passes g key n test h [] = go (badPattern g key) refl
   where
-    go : (b : Bool) → leb (patterns g) key ≡ b → firstStop (4 given-when b ∷ n given-when test ∷ []) ≡ firstStop (4 given-when b ∷ [])
+    go : (b : Bool) → badPattern g key ≡ b → firstStop (4 given-when b ∷ n given-when test ∷ []) ≡ firstStop (4 given-when b ∷ [])
     go true e = refl
-    go false e = rw (h (leb-false (patterns g) key e))
+    go false e = rw (h (pattern-passes g key .0 e))
 key-passes g key n test h ((m given-when true) ∷ rows) = refl
 key-passes g key n test h ((m given-when false) ∷ rows) = key-passes g key n test h rows
 
@@ -139,27 +139,27 @@ module _ (g : Geometry) (ok : valid g ≡ true) (es : Array) (sound : Sound g es
       go b p false q k = sound .fits b p (sym (getD-set-other es a b e empty (eqb-false b a q)) ∙ k)
 
   accepted-agrees : (c : Call (List ℕ)) → Passed (arrayStops g (shape c)) → Agrees g (accepted g (tablesOf g es) c) (arrayAccepted g es (shape c))
-  unfolding accepted arrayAccepted arrayStops shape badAddress badPattern
+  unfolding accepted arrayAccepted arrayStops shape
   accepted-agrees clear p = record { answer = refl; tables = cleared-tables g; sound = emptied-sound g }
   accepted-agrees (write a q) p =
-      let inside : a < g .depth = leb-false (g .depth) a (p .0) in
-      let small : q < patterns g = leb-false (patterns g) q (p .1 .0) in
+      let inside : a < g .depth = address-passes g a .0 (p .0) in
+      let small : q < patterns g = pattern-passes g q .0 (p .1 .0) in
       record {
         answer = ap held (store-entry g f es sound a);
         tables = replaced-image g f es sound a inside (pattern q);
         sound = set-sound a inside (pattern q) (λ r e. let same : q ≡ r = cc in omega arith);
       }
   accepted-agrees (erase a) p =
-      let inside : a < g .depth = leb-false (g .depth) a (p .0) in
+      let inside : a < g .depth = address-passes g a .0 (p .0) in
       record {
         answer = ap held (store-entry g f es sound a);
         tables = replaced-image g f es sound a inside empty;
         sound = set-sound a inside empty (λ r e. absurd (let z : _≡_ {A = ℕ} 0 1 = cc in omega arith));
       }
   accepted-agrees (read a) p = record { answer = ap held (store-entry g f es sound a); tables = refl; sound = sound }
-  accepted-agrees (firstMatch key) p = record { answer = first-agrees key (leb-false (patterns g) key (p .0)); tables = refl; sound = sound }
+  accepted-agrees (firstMatch key) p = record { answer = first-agrees key (pattern-passes g key .0 (p .0)); tables = refl; sound = sound }
   accepted-agrees (allMatch key m) p =
-      let small : key < patterns g = leb-false (patterns g) key (p .1 .0) in
+      let small : key < patterns g = pattern-passes g key .0 (p .1 .0) in
       record { answer = ap₂ matched (matches-agree key small) (hits-agree key small); tables = refl; sound = sound }
 
   pub agrees : (c : Call (List ℕ)) → Agrees g (step g (tablesOf g es) c) (arrayStep g es (shape c))

@@ -11,7 +11,7 @@ use Rattle.geometry.specs.Sizes.{patterns}
 use Rattle.geometry.specs.Stages.{stages, stage, rowOf, rowsOf}
 use Rattle.geometry.proofs.Facts.{Facts}
 use Rattle.geometry.proofs.Stages.{stages-pos, stage-lt, stages-determine, row-among}
-use Rattle.reference.specs.Entry.{Entry, empty, pattern, entryOf, holds}
+use Rattle.reference.specs.Entry.{empty, pattern, entryOf, holds}
 use Rattle.reference.specs.Image.{entryRows, covers}
 
 module _ (g : Geometry) (f : Facts g) (key : ℕ) (small : key < patterns g) where

@@ -1,20 +1,19 @@
 -- A clear leaves the tables of the empty array.
-use Prim.Native.Nat.{ℕ, zero, suc, _+_, _*_, _/_, _%_, _<_}
+use Prim.Native.Nat.{ℕ, zero, suc, _+_, _*_, _/_, _%_}
 use mathlib.Core.Path.{_≡_, refl, sym, ap, _∙_}
-use mathlib.Core.Bool.{Bool, true, false, _&&_, and-false}
-use mathlib.Core.List.{List, [], _∷_, map}
+use mathlib.Core.Bool.{Bool, true, false, and-false}
+use mathlib.Core.List.{List, _∷_, map}
 use native.Mathlib.Omega.{arith}
 use lib.Dec.{ltb}
-use lib.ListN.{length, getD, replicate, length-replicate, getD-replicate, List·getD-eq-default}
+use lib.ListN.{replicate, length-replicate, getD-replicate, List·getD-eq-default}
 use borrow.Author.Tests.{ltb-true, ltb-false}
 use Rattle.words.specs.Rules.{member}
-use Rattle.words.specs.Bits.{bit, word}
 use Rattle.words.proofs.Rules.{any-false, list-tabulate}
 use Rattle.words.proofs.Bits.{bits-equal, bit-zero, bit-word-all}
 use Rattle.geometry.specs.declared.Geometry.{Geometry}
 use Rattle.geometry.specs.Sizes.{rowWords, addressOf}
 use Rattle.geometry.specs.Stages.{indicatorWords}
-use Rattle.reference.specs.Entry.{Entry, empty, emptyWord, wordOf}
+use Rattle.reference.specs.Entry.{empty, emptyWord, wordOf}
 use Rattle.reference.specs.Array.{emptied, entryAt}
 use Rattle.reference.specs.Image.{entryRows, covers, covered, image, tablesOf}
 use Rattle.reference.specs.Steps.{clearTables}

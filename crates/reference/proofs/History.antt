@@ -1,23 +1,22 @@
 -- Statements 1 and 2, demand 3: a history that begins with an accepted clear is that of the plain array, and two such
 -- histories of one geometry leave equal tables exactly when they leave equal arrays. By induction on the calls, with
 -- `agrees` for each.
-use Prim.Native.Nat.{ℕ, _≤_}
+use Prim.Native.Nat.{ℕ}
 use mathlib.Core.Path.{_≡_, refl, sym, ap, ap₂, _∙_}
 use mathlib.Core.Logic.{_↔_, _⊎_, inl, inr}
-use mathlib.Core.Bool.{Bool, true, false, not}
+use mathlib.Core.Bool.{true, false}
 use mathlib.Core.List.{List, [], _∷_, map, zipWith}
 use mathlib.Core.Option as Option
 use mathlib.Core.Option.{Option}
 use native.Mathlib.Omega.{arith}
-use lib.ListN.{length}
 use lib.Seq.{ext-getD}
 use Rattle.geometry.specs.declared.Geometry.{Geometry}
 use Rattle.geometry.specs.Valid.{valid}
 use Rattle.geometry.proofs.Facts.{facts}
-use Rattle.reference.specs.Entry.{Entry, empty}
+use Rattle.reference.specs.Entry.{empty}
 use Rattle.reference.specs.Calls.{Call, clear, write, erase, read, firstMatch, allMatch, shape, lent, left, Answer, refused, cleared}
 use Rattle.reference.specs.Stops.{Stop, _given-when_, firstStop, Passed, FirstApplies}
-use Rattle.reference.specs.Array.{Array, emptied, entryAt, arrayStops, arrayAccepted, arrayOutcome, arrayStep}
+use Rattle.reference.specs.Array.{Array, emptied, arrayStops, arrayAccepted, arrayOutcome, arrayStep}
 use Rattle.reference.specs.Tables.{Tables, storeEntry}
 use Rattle.reference.specs.Image.{tablesOf}
 use Rattle.reference.specs.Steps.{badMatches, stops, accepted, outcome, step, Outcome}

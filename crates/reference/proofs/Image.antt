@@ -1,26 +1,26 @@
 -- The tables of an array: its image mirrors its store, and an entry that comes to an address of them leaves the tables
 -- of the array with that entry.
 use Prim.Native.Nat.{ℕ, zero, suc, _+_, _*_, _/_, _%_, _<_}
-use mathlib.Core.Path.{_≡_, refl, sym, ap, ap₂, _∙_, fun-ext}
+use mathlib.Core.Path.{_≡_, refl, sym, ap, _∙_, fun-ext}
 use mathlib.Core.Bool.{Bool, true, false, cond, not, _&&_, _||_, and-eq-true-iff, false≢true}
 use mathlib.Core.List.{List, [], _∷_, map}
 use native.Mathlib.Omega.{arith}
 use lib.Dec.{eqb, ltb}
-use lib.ListN.{length, getD, set, length-set, List·getD-map}
+use lib.ListN.{length, getD, set, List·getD-map}
 use lib.Seq.{getD-set-same, getD-set-other}
-use borrow.Author.Tests.{ltb-true, ltb-false, lt-ltb, le-ltb, eqb-true, eqb-false, eq-eqb}
-use Rattle.words.specs.Rules.{any, tabulate}
-use Rattle.words.specs.Bits.{bit, word}
+use borrow.Author.Tests.{ltb-true, lt-ltb, le-ltb, eqb-true, eqb-false, eq-eqb}
+use Rattle.words.specs.Rules.{any}
+use Rattle.words.specs.Bits.{bit}
 use Rattle.words.proofs.Rules.{both-ways, any-ext, any-split, length-tabulate, getD-tabulate, list-tabulate}
 use Rattle.words.proofs.Bits.{bits-equal, bit-word-all}
 use Rattle.geometry.specs.declared.Geometry.{Geometry}
-use Rattle.geometry.specs.Sizes.{patterns, sets, rowWords, setOf, offsetOf, addressOf}
+use Rattle.geometry.specs.Sizes.{patterns, rowWords, setOf, offsetOf, addressOf}
 use Rattle.geometry.specs.Stages.{rows, indicatorWords}
 use Rattle.geometry.proofs.Facts.{Facts, patterns-most}
 use Rattle.geometry.proofs.Places.{offset-lt, address-of, set-of, offset-of, place-lt, row-of-place, word-of-place, place-of, row-lt, word-lt, word-lt-row}
 use Rattle.reference.specs.Entry.{Entry, empty, pattern, emptyWord, wordOf, entryOf}
 use Rattle.reference.specs.Array.{Array, entryAt}
-use Rattle.reference.specs.Tables.{Tables, storeWord, storeEntry, cell, belongs}
+use Rattle.reference.specs.Tables.{storeWord, storeEntry, cell, belongs}
 use Rattle.reference.specs.Image.{covers, covered, image, tablesOf}
 use Rattle.reference.specs.Statements.{Mirrors, EveryBit}
 use Rattle.reference.specs.Update.{othersCover, replaced}

@@ -1,6 +1,6 @@
 -- Where the indicators mirror the store, the sets that a key indicates are those with an address that holds it.
 use Prim.Native.Nat.{ℕ, _+_, _-_, _*_, _/_, _%_, _^_, _<_, _≤_, min}
-use mathlib.Core.Path.{_≡_, refl, sym, ap, _∙_}
+use mathlib.Core.Path.{_≡_, refl, sym, _∙_}
 use mathlib.Core.Logic.{_⊎_, inl, inr}
 use mathlib.Core.Bool.{Bool, true, false, _||_, or-true, or-false, and-eq-true-iff, false≢true}
 use mathlib.Core.List.{List, [], _∷_, foldr}
@@ -19,9 +19,8 @@ use Rattle.geometry.specs.declared.Geometry.{Geometry}
 use Rattle.geometry.specs.Sizes.{patterns, sets, rowWords, addressOf}
 use Rattle.geometry.specs.Stages.{stages, rowsOf, rows}
 use Rattle.geometry.proofs.Facts.{Facts}
-use Rattle.geometry.proofs.Places.{word-lt}
 use Rattle.geometry.proofs.Stages.{one-stage}
-use Rattle.reference.specs.Entry.{pattern, entryOf}
+use Rattle.reference.specs.Entry.{pattern}
 use Rattle.reference.specs.Tables.{Tables, storeWord, storeEntry, cell}
 use Rattle.reference.specs.Image.{entryRows, covers, covered}
 use Rattle.reference.specs.Statements.{Mirrors}
@@ -58,14 +57,14 @@ module _ (g : Geometry) (t : Tables) (j : ℕ) where
   joined-le m [] = le-refl m
   joined-le m (x ∷ rs) = le-trans (and-le-r (getD (t .indicators) (rowWords g * x + j) 0) (foldr joins m rs)) (joined-le m rs)
 
--- the mask has the bits of the sets
-mask-in : (g : Geometry) (s : ℕ) → s < sets g → bit (setMask g (s / 64)) (s % 64) ≡ true
+-- the mask has the bits of the sets, and no other
+mask-bit : (g : Geometry) (s : ℕ) → bit (setMask g (s / 64)) (s % 64) ≡ ltb s (sets g)
 unfolding setMask
-mask-in g s h = bit-ones _ _ ∙ lt-ltb (s % 64) (min 64 (sets g - 64 * (s / 64))) (omega arith)
-
-mask-out : (g : Geometry) (s : ℕ) → sets g ≤ s → bit (setMask g (s / 64)) (s % 64) ≡ false
-unfolding setMask
-mask-out g s h = bit-ones _ _ ∙ le-ltb (s % 64) (min 64 (sets g - 64 * (s / 64))) (omega arith)
+mask-bit g s = bit-ones _ _ ∙ go (ltb s (sets g)) refl
+  where
+    go : (b : Bool) → ltb s (sets g) ≡ b → ltb (s % 64) (min 64 (sets g - 64 * (s / 64))) ≡ b
+    go true e = let inside = ltb-true s (sets g) e in lt-ltb (s % 64) (min 64 (sets g - 64 * (s / 64))) (omega arith)
+    go false e = let past = ltb-false s (sets g) e in le-ltb (s % 64) (min 64 (sets g - 64 * (s / 64))) (omega arith)
 
 -- a joined word has 64 bits
 pub joined-lt : (g : Geometry) (t : Tables) (key j : ℕ) → joined g t key j < 2 ^ 64
@@ -80,7 +79,7 @@ unfolding indicated joined joins
 indicated-out g t key s h = go (indicated g t key s) refl
   where
     go : (b : Bool) → indicated g t key s ≡ b → indicated g t key s ≡ false
-    go true e = absurd (false≢true (sym (mask-out g s h) ∙ joined-all g t (s / 64) (setMask g (s / 64)) (s % 64) (rowsOf g key) e .0))
+    go true e = absurd (false≢true (sym (mask-bit g s ∙ le-ltb s (sets g) h) ∙ joined-all g t (s / 64) (setMask g (s / 64)) (s % 64) (rowsOf g key) e .0))
     go false e = e
 
 pub indicated-in : (g : Geometry) (t : Tables) (key s : ℕ) → indicated g t key s ≡ true → s < sets g
@@ -126,7 +125,7 @@ module _ (g : Geometry) (f : Facts g) (t : Tables) (mirrors : Mirrors g t) (key 
   indicated-is s h =
       both-ways (indicated g t key s) (heldIn s)
       (λ e. held s (λ r m. sym (mirrors .bits r s (key-row-lt r m) h) ∙ joined-all g t (s / 64) (setMask g (s / 64)) (s % 64) (rowsOf g key) e .1 r m))
-      (λ e. all-joined g t (s / 64) (setMask g (s / 64)) (s % 64) (rowsOf g key) (mask-in g s h) (shown (any-witness (g .«set_width») _ e)))
+      (λ e. all-joined g t (s / 64) (setMask g (s / 64)) (s % 64) (rowsOf g key) (mask-bit g s ∙ lt-ltb s (sets g) h) (shown (any-witness (g .«set_width») _ e)))
     where
       shown : (o : ℕ) × (o < g .«set_width») × (eqb (storeWord t (addressOf g s o)) key ≡ true) → (r : ℕ) → member r (rowsOf g key) ≡ true
           → cell g (t .indicators) r (s / 64) (s % 64) ≡ true

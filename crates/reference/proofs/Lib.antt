@@ -1,3 +1,4 @@
+pub mod Limits
 pub mod Cells
 pub mod Replaced
 pub mod Covering

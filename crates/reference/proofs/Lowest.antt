@@ -3,14 +3,14 @@ use Prim.Native.Nat.{ℕ, zero, suc, _+_, _<_}
 use mathlib.Core.Path.{_≡_, refl, sym, ap, _∙_}
 use mathlib.Core.Logic.{_⊎_, inl, inr}
 use mathlib.Core.Bool.{Bool, true, false, cond}
-use mathlib.Core.List.{List, [], _∷_}
+use mathlib.Core.List.{[], _∷_}
 use mathlib.Core.Option as Option
 use mathlib.Core.Option.{Option}
 use native.Mathlib.Omega.{arith}
 use lib.ListN.{length}
 use Rattle.words.specs.Rules.{count, First, Nowhere}
 use Rattle.words.proofs.Rules.{count-front}
-use Rattle.reference.specs.Entry.{Entry, holds}
+use Rattle.reference.specs.Entry.{holds}
 use Rattle.reference.specs.Array.{Array, entryAt, lowest, hits}
 
 abbrev pub holding : Array → (key a : ℕ) → Bool

@@ -1,16 +1,16 @@
 -- Statement 3: on any tables of the right lengths whose indicators mirror the store, first-match gives the lowest address
 -- that holds the key, or none exactly when no address does, and all-match the full word. Neither refuses with 6.
-use Prim.Native.Nat.{ℕ, _+_, _-_, _*_, _/_, _%_, _^_, _<_, _≤_}
+use Prim.Native.Nat.{ℕ, _+_, _-_, _*_, _/_, _<_, _≤_}
 use mathlib.Core.Path.{_≡_, refl, sym, ap, ap₂, _∙_}
 use mathlib.Core.Logic.{_⊎_, inl, inr}
-use mathlib.Core.Bool.{Bool, true, false, cond, not, _&&_, _||_, and-false, or-true, and-eq-true-iff, false≢true}
+use mathlib.Core.Bool.{Bool, true, false, not, _&&_, _||_, and-false, or-true, and-eq-true-iff, false≢true}
 use native.Mathlib.Nat.{lt-trans, le-add-right, add-zero}
 use native.Mathlib.Omega.{arith}
 use lib.Dec.{eqb, ltb}
 use mathlib.Core.List.{List}
 use lib.ListN.{length, List·getD-eq-default}
-use borrow.Author.Tests.{ltb-true, ltb-false, lt-leb, eq-eqb, ne-eqb}
-use Rattle.words.specs.Rules.{any, count, tabulate, First, Nowhere}
+use borrow.Author.Tests.{ltb-true, ltb-false, eq-eqb, ne-eqb}
+use Rattle.words.specs.Rules.{count, tabulate, First, Nowhere}
 use Rattle.words.specs.Bits.{word, totalOnes}
 use Rattle.words.specs.Seek.{Sought, found, missed}
 use Rattle.words.proofs.Rules.{both-ways, any-witness, any-true, any-false, none-of-any, count-ext, count-none, count-add, tabulate-ext}
@@ -23,11 +23,12 @@ use Rattle.geometry.proofs.Facts.{Facts, facts, patterns-most}
 use Rattle.geometry.proofs.Places.{set-lt, offset-lt, address-lt, address-of, set-of, offset-of, below-address, set-past, word-of, sets-most, matches-most}
 use Rattle.reference.specs.Entry.{emptyWord}
 use Rattle.reference.specs.Calls.{firstMatch, allMatch, none, matched}
-use Rattle.reference.specs.Stops.{firstStop, badPattern}
-use Rattle.reference.specs.Tables.{Tables, storeWord}
+use Rattle.reference.specs.Stops.{firstStop}
+use Rattle.reference.specs.Tables.{Tables}
 use Rattle.reference.specs.Statements.{Mirrors, stores, FirstIs, AllAre}
 use Rattle.reference.specs.Search.{joined, indicated, seekWord, seekEntry, lowestSet, falseSet, firstIsFalse, anyIsFalse, answerIn, firstAnswer, taken, takenWords}
 use Rattle.reference.specs.Steps.{badLengths, badMatches, ownStops, stops, accepted, outcome, step}
+use Rattle.reference.proofs.Limits.{pattern-passes}
 use Rattle.reference.proofs.Indicated.{joined-lt, indicated-out, indicated-in, indicated-is}
 
 module _ (g : Geometry) (f : Facts g) (t : Tables) (mirrors : Mirrors g t) (key : ℕ) (small : key < patterns g) where
@@ -183,13 +184,13 @@ module _ (g : Geometry) (ok : valid g ≡ true) (t : Tables) (mirrors : Mirrors 
   lengths-pass = rw (eq-eqb _ _ (mirrors .entries), eq-eqb _ _ (mirrors .words))
 
   pub first-match-mirrored : FirstIs g t key (step g t (firstMatch key) .answer)
-  unfolding step outcome stops ownStops badMatches badPattern firstStop accepted
+  unfolding step outcome stops ownStops badMatches firstStop accepted
   first-match-mirrored =
-      rw (ok, lengths-pass, lt-leb (patterns g) key small, first-not-false g (facts g ok) t mirrors key small)
+      rw (ok, lengths-pass, pattern-passes g key .1 small, first-not-false g (facts g ok) t mirrors key small)
       (first-is g (facts g ok) t mirrors key small)
 
   pub all-match-mirrored : (m : List ℕ) → length m ≡ matchWords g → AllAre g t key (step g t (allMatch key m) .answer)
-  unfolding step outcome stops ownStops badMatches badPattern firstStop accepted
+  unfolding step outcome stops ownStops badMatches firstStop accepted
   all-match-mirrored m long =
-      rw (ok, lengths-pass, eq-eqb (length m) (matchWords g) long, lt-leb (patterns g) key small, none-false g (facts g ok) t mirrors key small)
+      rw (ok, lengths-pass, eq-eqb (length m) (matchWords g) long, pattern-passes g key .1 small, none-false g (facts g ok) t mirrors key small)
       (ap₂ matched (all-are g (facts g ok) t mirrors key small) (all-counted g (facts g ok) t mirrors key small))

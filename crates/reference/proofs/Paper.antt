@@ -2,30 +2,30 @@
 -- pattern, in kind 1 it is a value of a stage.
 use Prim.Native.Nat.{ℕ, _+_, _*_, _/_, _%_, _^_, _<_, _≤_}
 use mathlib.Core.Path.{_≡_, refl, sym, ap, _∙_}
-use mathlib.Core.Bool.{Bool, true, false, cond, not, _&&_, _||_, and-true, and-false, or-false}
+use mathlib.Core.Bool.{Bool, true, false, cond, not, _&&_, and-true, and-false, or-false}
 use mathlib.Core.List.{[], _∷_}
 use native.Mathlib.Omega.{arith}
 use lib.Dec.{eqb, ltb}
-use lib.ListN.{length, List·getD-eq-default}
-use borrow.Author.Tests.{ltb-true, lt-ltb, leb-false, eqb-true, eq-eqb}
+use lib.ListN.{List·getD-eq-default}
+use borrow.Author.Tests.{ltb-true, lt-ltb, eqb-true, eq-eqb}
 use Rattle.words.specs.Rules.{any, member}
 use Rattle.words.proofs.Rules.{both-ways, any-ext, any-false}
 use Rattle.geometry.specs.declared.Geometry.{Geometry}
 use Rattle.geometry.specs.Valid.{valid, cascaded}
 use Rattle.geometry.specs.Sizes.{patterns, sets, rowWords, setOf, offsetOf, addressOf}
-use Rattle.geometry.specs.Stages.{stages, stageWidth, stage, rowOf, rowsOf, rows}
+use Rattle.geometry.specs.Stages.{stages, stageWidth, rowsOf, rows}
 use Rattle.geometry.proofs.Facts.{Facts, facts}
 use Rattle.geometry.proofs.Places.{offset-lt, address-past, address-of, word-lt}
 use Rattle.geometry.proofs.Stages.{row-lt, row-among, one-stage-kind, one-stage}
 use Rattle.reference.specs.Entry.{Entry, empty, pattern, entryOf, holds}
 use Rattle.reference.specs.Calls.{write, erase, held}
-use Rattle.reference.specs.Stops.{badPattern}
 use Rattle.reference.specs.Array.{Array, entryAt}
-use Rattle.reference.specs.Tables.{Tables, storeWord, storeEntry, cell, belongs}
+use Rattle.reference.specs.Tables.{Tables, storeWord, storeEntry, cell}
 use Rattle.reference.specs.Image.{covers, covered, entryRows, image}
 use Rattle.reference.specs.Update.{othersCover}
 use Rattle.reference.specs.Steps.{ownStops, stops, step}
 use Rattle.reference.specs.Statements.{EveryBit, holdsStage, othersHold, PatternBits, StageBits}
+use Rattle.reference.proofs.Limits.{pattern-passes}
 use Rattle.reference.proofs.Replaced.{covers-lt, write-passed, write-bits, erase-bits}
 use Rattle.reference.proofs.Image.{Sound, image-cell}
 
@@ -99,11 +99,11 @@ module _ (g : Geometry) (ok : valid g ≡ true) (kind : eqb (g .kind) cascaded �
           (λ o l. ap (λ x. not (eqb (addressOf g (setOf g a) o) a) && x) (covers-pattern (storeEntry g t (addressOf g (setOf g a) o)) (word-fits g (storeWord t (addressOf g (setOf g a) o))) r))
 
   pub write-patterns : (t : Tables) (a p : ℕ) (e : Entry) → step g t (write a p) .answer ≡ held e → PatternBits g t (step g t (write a p) .tables) a (pattern p)
-  unfolding stops ownStops badPattern
+  unfolding stops ownStops
   write-patterns t a p e h = pattern-bits t _ a (pattern p) (λ q same. let is : p ≡ q = cc in omega (arith, small)) (write-bits g t a p e h)
     where
       small : p < patterns g
-      small = leb-false (patterns g) p (write-passed g t a p e h .1 .1 .1 .0)
+      small = pattern-passes g p .0 (write-passed g t a p e h .1 .1 .1 .0)
 
   pub erase-patterns : (t : Tables) (a : ℕ) (e : Entry) → step g t (erase a) .answer ≡ held e → PatternBits g t (step g t (erase a) .tables) a empty
   erase-patterns t a e h = pattern-bits t _ a empty (λ q same. absurd (let z : _≡_ {A = ℕ} 0 1 = cc in omega arith)) (erase-bits g t a e h)

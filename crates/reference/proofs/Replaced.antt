@@ -5,14 +5,14 @@ use mathlib.Core.Bool.{Bool, true, false, cond, not, _&&_, _||_, and-eq-true-iff
 use mathlib.Core.List.{List}
 use native.Mathlib.Omega.{arith}
 use lib.Dec.{eqb}
-use lib.ListN.{length, getD, set, length-set}
+use lib.ListN.{length, length-set}
 use lib.Seq.{getD-set-same, getD-set-other}
-use borrow.Author.Tests.{leb-false, eqb-true}
-use Rattle.words.specs.Rules.{any, member, keep}
+use borrow.Author.Tests.{eqb-true}
+use Rattle.words.specs.Rules.{member}
 use Rattle.words.specs.Bits.{setBit}
 use Rattle.words.proofs.Rules.{any-witness, member-tabulate, member-keep}
 use Rattle.geometry.specs.declared.Geometry.{Geometry}
-use Rattle.geometry.specs.Sizes.{sets, rowWords, setOf}
+use Rattle.geometry.specs.Sizes.{sets, setOf}
 use Rattle.geometry.specs.Stages.{stages, stage, rowOf, rowsOf, rows, indicatorWords}
 use Rattle.geometry.proofs.Facts.{Facts, facts}
 use Rattle.geometry.proofs.Places.{set-lt}
@@ -20,11 +20,12 @@ use Rattle.geometry.proofs.Stages.{stage-lt, row-lt}
 use Rattle.reference.specs.Entry.{Entry, empty, pattern, wordOf}
 use Rattle.reference.specs.Calls.{Call, write, erase, held}
 use Rattle.reference.specs.Stops.{Passed, badAddress}
-use Rattle.reference.specs.Tables.{Tables, storeWord, storeEntry, cell, belongs}
+use Rattle.reference.specs.Tables.{Tables, storeEntry, cell, belongs}
 use Rattle.reference.specs.Image.{entryRows, covers}
 use Rattle.reference.specs.Statements.{EveryBit}
-use Rattle.reference.specs.Update.{change, othersCover, released, replaced}
+use Rattle.reference.specs.Update.{othersCover, released, replaced}
 use Rattle.reference.specs.Steps.{ownStops, stops, accepted, outcome, step}
+use Rattle.reference.proofs.Limits.{address-passes}
 use Rattle.reference.proofs.Stopped.{passed-none, not-stopped, passed-valid, passed-lengths}
 use Rattle.reference.proofs.Cells.{length-change, set-cell, clear-cell}
 
@@ -79,10 +80,10 @@ replaced-bits g f t a e ha stored indicated = record {
 module _ (g : Geometry) (t : Tables) (c : Call (List ℕ)) (a : ℕ) (e : Entry) (passed : Passed (stops g t c))
     (inside : badAddress g a ≡ false) (puts : accepted g t c .tables ≡ replaced g t a e) where
   puts-bits : EveryBit g t (step g t c .tables) a e
-  unfolding step outcome badAddress
+  unfolding step outcome
   puts-bits =
       let lengths = passed-lengths g t c passed in
-      rw (passed-none (stops g t c) passed, puts) (replaced-bits g (facts g (passed-valid g t c passed)) t a e (leb-false (g .depth) a inside) (lengths .0) (lengths .1))
+      rw (passed-none (stops g t c) passed, puts) (replaced-bits g (facts g (passed-valid g t c passed)) t a e (address-passes g a .0 inside) (lengths .0) (lengths .1))
 
 -- Every accepted write and every accepted erase.
 pub write-passed : (g : Geometry) (t : Tables) (a p : ℕ) (e : Entry) → step g t (write a p) .answer ≡ held e → Passed (stops g t (write a p))

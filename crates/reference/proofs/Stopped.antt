@@ -15,11 +15,11 @@ use Rattle.words.specs.Seek.{Sought, found, missed}
 use Rattle.geometry.specs.declared.Geometry.{Geometry}
 use Rattle.geometry.specs.Valid.{valid, segmented}
 use Rattle.geometry.specs.Stages.{indicatorWords}
-use Rattle.reference.specs.Calls.{Call, clear, write, erase, read, firstMatch, allMatch, lent, left, Answer, refused, cleared, held, at, none, matched}
+use Rattle.reference.specs.Calls.{Call, clear, write, erase, read, firstMatch, allMatch, lent, left, Answer, refused, at, none}
 use Rattle.reference.specs.Stops.{Stop, _given-when_, firstStop, Passed, FirstApplies}
 use Rattle.reference.specs.Tables.{Tables}
 use Rattle.reference.specs.Search.{seekWord, seekEntry, lowestSet, falseSet, firstIsFalse, answerIn, firstAnswer}
-use Rattle.reference.specs.Steps.{badLengths, badMatches, ownStops, stops, accepted, outcome, step, Outcome}
+use Rattle.reference.specs.Steps.{badLengths, badMatches, ownStops, stops, accepted, outcome, step}
 
 -- the table is passed exactly when it is passed row by row
 pub passes : (rows : List Stop) → firstStop rows ≡ Option.none → Passed rows

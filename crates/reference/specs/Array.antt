@@ -1,6 +1,6 @@
 -- The plain array: D entries and the six calls on them. It knows the geometry, and nothing of tables, rows or searches.
 use Prim.Native.Nat.{ℕ, suc, _+_, _*_, _/_}
-use mathlib.Core.Bool.{Bool, true, false, cond, not}
+use mathlib.Core.Bool.{true, false, cond, not}
 use mathlib.Core.List.{List, [], _∷_}
 use mathlib.Core.Option as Option
 use mathlib.Core.Option.{Option}
@@ -46,7 +46,6 @@ hits key (e ∷ es) = cond (holds e key) 1 0 + hits key es
 
 -- "It refuses with 3, 4 and, for an all-match word of wrong length, 2, in the order below."
 unfoldable pub arrayStops : Geometry → Call ℕ → List Stop
-unfolding badAddress badPattern
 arrayStops g clear = []
 arrayStops g (write a p) = 3 given-when badAddress g a ∷ 4 given-when badPattern g p ∷ []
 arrayStops g (erase a) = 3 given-when badAddress g a ∷ []

@@ -32,13 +32,13 @@ lent (read a) = []
 lent (firstMatch key) = []
 lent (allMatch key m) = m
 
--- What comes back. `words` and `compared` are document 01's w and c.
+-- What comes back. Document 01's w is `words-read`, its c `entries-compared`.
 pub data Answer : Type 0 where
   refused : (number : ℕ) → Answer
   cleared : Answer
   held : (previous : Entry) → Answer
-  at : (address words compared : ℕ) → Answer
-  none : (words compared : ℕ) → Answer
+  at : (address words-read entries-compared : ℕ) → Answer
+  none : (words-read entries-compared : ℕ) → Answer
   matched : (matches : List ℕ) (hits : ℕ) → Answer
 
 -- The match word that a call leaves: the one in its answer, and the lent one where the answer has none.

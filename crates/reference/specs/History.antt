@@ -3,7 +3,7 @@ use Prim.Native.Nat.{ℕ}
 use mathlib.Core.List.{List, [], _∷_, map}
 use Rattle.geometry.specs.declared.Geometry.{Geometry}
 use Rattle.reference.specs.Calls.{Call, Answer, shape}
-use Rattle.reference.specs.Array.{Array, ArrayOutcome, emptied, arrayStep}
+use Rattle.reference.specs.Array.{Array, emptied, arrayStep}
 use Rattle.reference.specs.Tables.{Tables}
 use Rattle.reference.specs.Steps.{Outcome, step}
 

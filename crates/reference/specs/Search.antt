@@ -43,7 +43,7 @@ isMissed : Sought → Bool
 isMissed (found i n) = false
 isMissed (missed n) = true
 
--- Kind 2: an indicated set that has no entry equal to the key.
+-- In kind 2 a set that has no entry equal to the key is false, should it be indicated.
 unfoldable pub falseSet : Geometry → Tables → (key set : ℕ) → Bool
 unfolding isMissed
 falseSet g t key s = eqb (g .kind) segmented && isMissed (seekEntry g t key s)
@@ -55,8 +55,9 @@ firstIsFalse g t key = elim (seekWord g t key) [ found j w ↦ falseSet g t key 
 unfoldable pub anyIsFalse : Geometry → Tables → (key : ℕ) → Bool
 anyIsFalse g t key = any (sets g) (λ s. indicated g t key s && falseSet g t key s)
 
--- "In kind 2 the entries of that set are compared; in the others the set is the address."
-unfoldable pub answerIn : Geometry → Tables → (key set words : ℕ) → Answer
+-- "In kind 2 the entries of that set are compared; in the others the set is the address." A set without an equal entry
+-- was refused before.
+unfoldable pub answerIn : Geometry → Tables → (key set words-read : ℕ) → Answer
 answerIn g t key s w =
     elim (eqb (g .kind) segmented) [
       | true ↦ elim (seekEntry g t key s) [ found o c ↦ at (addressOf g s o) w c | missed c ↦ refused 6 ]

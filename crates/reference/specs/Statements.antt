@@ -3,7 +3,7 @@ use Prim.Native.Nat.{ℕ, _+_, _*_, _/_, _%_, _^_, _<_}
 use mathlib.Core.Path.{_≡_}
 use mathlib.Core.Logic.{_⊎_}
 use mathlib.Core.Bool.{Bool, false, cond, not, _&&_, _||_}
-use mathlib.Core.List.{List, map, zipWith}
+use mathlib.Core.List.{map, zipWith}
 use lib.Dec.{eqb}
 use lib.ListN.{length}
 use Rattle.words.specs.Rules.{any, count, tabulate, First, Nowhere}

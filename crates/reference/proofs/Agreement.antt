@@ -11,7 +11,7 @@ use native.Mathlib.Omega.{arith}
 use lib.Dec.{eqb, ltb}
 use lib.ListN.{length, set, length-set}
 use lib.Seq.{getD-set-same, getD-set-other}
-use borrow.Author.Tests.{lt-ltb, eqb-true, eqb-false, eq-eqb}
+use borrow.Author.Tests.{lt-ltb, eqb-true, eqb-false}
 use Rattle.words.specs.Rules.{count, First, Nowhere}
 use Rattle.words.specs.Bits.{totalOnes}
 use Rattle.words.proofs.Rules.{count-ext, tabulate-ext, first-unique}
@@ -23,16 +23,16 @@ use Rattle.geometry.proofs.Facts.{Facts, facts}
 use Rattle.reference.specs.Entry.{Entry, empty, pattern, emptyWord, wordOf, holds}
 use Rattle.reference.specs.Calls.{Call, clear, write, erase, read, firstMatch, allMatch, shape, held, matched}
 use Rattle.reference.specs.Stops.{Stop, _given-when_, firstStop, Passed, badAddress, badPattern}
-use Rattle.reference.specs.Array.{Array, entryAt, lowest, counted, matchesOf, hits, arrayStops, ArrayOutcome, arrayAccepted, arrayOutcome, arrayStep}
+use Rattle.reference.specs.Array.{Array, entryAt, lowest, counted, matchesOf, hits, arrayStops, ArrayOutcome, arrayAccepted, arrayOutcome, arrayStep, Sound}
 use Rattle.reference.specs.Tables.{storeWord}
 use Rattle.reference.specs.Image.{tablesOf}
 use Rattle.reference.specs.Search.{firstAnswer, takenWords}
-use Rattle.reference.specs.Statements.{FirstIs}
-use Rattle.reference.specs.Steps.{badLengths, badMatches, badEntry, ownStops, stops, Outcome, accepted, outcome, step}
+use Rattle.reference.specs.Statements.{Mirrors, FirstIs}
+use Rattle.reference.specs.Steps.{badMatches, badEntry, ownStops, stops, Outcome, accepted, outcome, step}
 use Rattle.reference.proofs.Limits.{address-passes, pattern-passes}
 use Rattle.reference.proofs.Covering.{holds-word}
-use Rattle.reference.proofs.Mirrored.{first-is, first-not-false, none-false, all-are, all-counted}
-use Rattle.reference.proofs.Image.{Sound, store-word, store-entry, store-long, indicators-long, image-mirrors, replaced-image}
+use Rattle.reference.proofs.Mirrored.{lengths-pass, first-is, first-not-false, none-false, all-are, all-counted}
+use Rattle.reference.proofs.Image.{store-word, store-entry, image-mirrors, replaced-image}
 use Rattle.reference.proofs.Lowest.{holding, lowest-is, hits-are}
 use Rattle.reference.proofs.Stopped.{passes}
 use Rattle.reference.proofs.Emptied.{emptied-sound, cleared-tables}
@@ -66,13 +66,12 @@ module _ (g : Geometry) (ok : valid g ≡ true) (es : Array) (sound : Sound g es
   abbrev f : Facts g
   f = facts g ok
 
+  abbrev mirrors : Mirrors g (tablesOf g es)
+  mirrors = image-mirrors g f es sound
+
   -- the store tells what the array holds
   held-is : (key : ℕ) → key < patterns g → (a : ℕ) → eqb (storeWord (tablesOf g es) a) key ≡ holding es key a
   held-is key small a = sym (holds-word g f key small (storeWord (tablesOf g es) a)) ∙ ap (λ e. holds e key) (store-entry g f es sound a)
-
-  lengths-pass : badLengths g (tablesOf g es) ≡ false
-  unfolding badLengths
-  lengths-pass = rw (eq-eqb _ _ (store-long g f es sound), eq-eqb _ _ (indicators-long g f es sound))
 
   entry-passes : (a : ℕ) → badEntry g (tablesOf g es) a ≡ false
   unfolding badEntry wordOf
@@ -84,21 +83,21 @@ module _ (g : Geometry) (ok : valid g ≡ true) (es : Array) (sound : Sound g es
 
   pub same-stops : (c : Call (List ℕ)) → firstStop (stops g (tablesOf g es) c) ≡ firstStop (arrayStops g (shape c))
   unfolding stops firstStop ownStops arrayStops shape badMatches
-  same-stops c = rw (ok, lengths-pass) (go c)
+  same-stops c = rw (ok, lengths-pass g (tablesOf g es) mirrors) (go c)
     where
       go : (c : Call (List ℕ)) → firstStop (2 given-when badMatches g c ∷ ownStops g (tablesOf g es) c) ≡ firstStop (arrayStops g (shape c))
       go clear = refl
       go (write a p) = rw (entry-passes a) (last-passes (3 given-when badAddress g a ∷ 4 given-when badPattern g p ∷ []) 5)
       go (erase a) = rw (entry-passes a) (last-passes (3 given-when badAddress g a ∷ []) 5)
       go (read a) = rw (entry-passes a) (last-passes (3 given-when badAddress g a ∷ []) 5)
-      go (firstMatch key) = key-passes g key 6 _ (first-not-false g f (tablesOf g es) (image-mirrors g f es sound) key) []
-      go (allMatch key m) = key-passes g key 6 _ (none-false g f (tablesOf g es) (image-mirrors g f es sound) key) (2 given-when not (eqb (length m) (matchWords g)) ∷ [])
+      go (firstMatch key) = key-passes g key 6 _ (first-not-false g f (tablesOf g es) mirrors key) []
+      go (allMatch key m) = key-passes g key 6 _ (none-false g f (tablesOf g es) mirrors key) (2 given-when not (eqb (length m) (matchWords g)) ∷ [])
 
   -- ---- the searches agree
 
   first-agrees : (key : ℕ) → key < patterns g → firstAnswer g (tablesOf g es) key ≡ counted g (lowest key 0 es)
   unfolding counted
-  first-agrees key small = go (first-is g f (tablesOf g es) (image-mirrors g f es sound) key small) (lowest-is key 0 es)
+  first-agrees key small = go (first-is g f (tablesOf g es) mirrors key small) (lowest-is key 0 es)
     where
       there : (i : ℕ) → First (length es) (holding es key) i → First (g .depth) (λ a. eqb (storeWord (tablesOf g es) a) key) i
       there i h = record {
@@ -119,12 +118,12 @@ module _ (g : Geometry) (ok : valid g ≡ true) (es : Array) (sound : Sound g es
   matches-agree : (key : ℕ) → key < patterns g → takenWords g (tablesOf g es) key ≡ matchesOf g es key
   unfolding matchesOf
   matches-agree key small =
-      all-are g f (tablesOf g es) (image-mirrors g f es sound) key small
+      all-are g f (tablesOf g es) mirrors key small
       ∙ tabulate-ext (matchWords g) _ _ (λ j l. word-ext 64 _ _ (λ b m. held-is key small (64 * j + b)))
 
   hits-agree : (key : ℕ) → key < patterns g → totalOnes (takenWords g (tablesOf g es) key) ≡ hits key es
   hits-agree key small =
-      all-counted g f (tablesOf g es) (image-mirrors g f es sound) key small
+      all-counted g f (tablesOf g es) mirrors key small
       ∙ count-ext (g .depth) _ (holding es key) (λ a l. held-is key small a)
       ∙ ap (λ n. count n (holding es key)) (sym (sound .long)) ∙ sym (hits-are key es)
 

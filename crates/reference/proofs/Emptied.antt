@@ -14,10 +14,9 @@ use Rattle.geometry.specs.declared.Geometry.{Geometry}
 use Rattle.geometry.specs.Sizes.{rowWords, addressOf}
 use Rattle.geometry.specs.Stages.{indicatorWords}
 use Rattle.reference.specs.Entry.{empty, emptyWord, wordOf}
-use Rattle.reference.specs.Array.{emptied, entryAt}
+use Rattle.reference.specs.Array.{emptied, entryAt, Sound}
 use Rattle.reference.specs.Image.{entryRows, covers, covered, image, tablesOf}
 use Rattle.reference.specs.Steps.{clearTables}
-use Rattle.reference.proofs.Image.{Sound}
 
 entry-of-emptied : (g : Geometry) (a : ℕ) → entryAt (emptied g) a ≡ empty
 unfolding emptied

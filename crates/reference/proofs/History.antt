@@ -16,13 +16,13 @@ use Rattle.geometry.proofs.Facts.{facts}
 use Rattle.reference.specs.Entry.{empty}
 use Rattle.reference.specs.Calls.{Call, clear, write, erase, read, firstMatch, allMatch, shape, lent, left, Answer, refused, cleared}
 use Rattle.reference.specs.Stops.{Stop, _given-when_, firstStop, Passed, FirstApplies}
-use Rattle.reference.specs.Array.{Array, emptied, arrayStops, arrayAccepted, arrayOutcome, arrayStep}
+use Rattle.reference.specs.Array.{Array, emptied, arrayStops, arrayAccepted, arrayOutcome, arrayStep, Sound}
 use Rattle.reference.specs.Tables.{Tables, storeEntry}
 use Rattle.reference.specs.Image.{tablesOf}
 use Rattle.reference.specs.Steps.{badMatches, stops, accepted, outcome, step, Outcome}
 use Rattle.reference.specs.History.{History, run, after, arrayAnswers, arrayAfter, arrayOf}
 use Rattle.reference.specs.Statements.{Follows}
-use Rattle.reference.proofs.Image.{Sound, store-entry}
+use Rattle.reference.proofs.Image.{store-entry}
 use Rattle.reference.proofs.Emptied.{emptied-sound, cleared-tables}
 use Rattle.reference.proofs.Stopped.{passed-none, stop-first, first-stop, given-exactly, not-stopped, passed-valid, match-word-left}
 use Rattle.reference.proofs.Agreement.{same-stops, agrees}
@@ -58,7 +58,7 @@ matches-left g t (c ∷ cs) = ap₂ (λ (x : List ℕ) (xs : List (List ℕ)). x
 -- ---- from an accepted clear on, whatever the tables held
 
 clear-passes : (g : Geometry) (t : Tables) → step g t clear .answer ≡ cleared → Passed (stops g t clear)
-clear-passes g t e = not-stopped g t clear cleared (λ n h. let z : _≡_ {A = ℕ} 0 1 = cc in omega arith) e
+clear-passes g t e = not-stopped g t clear cleared refl e
 
 pub clear-valid : (g : Geometry) (t : Tables) → step g t clear .answer ≡ cleared → valid g ≡ true
 clear-valid g t e = passed-valid g t clear (clear-passes g t e)
@@ -77,7 +77,8 @@ history g t cs e =
       tables = rw (clear-empties g t e) (tables-follow g ok (emptied g) (emptied-sound g) cs);
     }
 
-array-sound : (g : Geometry) (t : Tables) (cs : History) → step g t clear .answer ≡ cleared → Sound g (arrayOf g (clear ∷ cs))
+-- every history leaves D entries, each empty or a pattern
+pub array-sound : (g : Geometry) (t : Tables) (cs : History) → step g t clear .answer ≡ cleared → Sound g (arrayOf g (clear ∷ cs))
 array-sound g t cs e = sound-follow g (clear-valid g t e) (emptied g) (emptied-sound g) (clear ∷ cs)
 
 -- arrays with equal tables are equal: the store tells every entry

@@ -19,17 +19,12 @@ use Rattle.geometry.specs.Stages.{rows, indicatorWords}
 use Rattle.geometry.proofs.Facts.{Facts, patterns-most}
 use Rattle.geometry.proofs.Places.{offset-lt, address-of, set-of, offset-of, place-lt, row-of-place, word-of-place, place-of, row-lt, word-lt, word-lt-row}
 use Rattle.reference.specs.Entry.{Entry, empty, pattern, emptyWord, wordOf, entryOf}
-use Rattle.reference.specs.Array.{Array, entryAt}
+use Rattle.reference.specs.Array.{Array, entryAt, Sound}
 use Rattle.reference.specs.Tables.{storeWord, storeEntry, cell, belongs}
 use Rattle.reference.specs.Image.{covers, covered, image, tablesOf}
 use Rattle.reference.specs.Statements.{Mirrors, EveryBit}
 use Rattle.reference.specs.Update.{othersCover, replaced}
 use Rattle.reference.proofs.Replaced.{replaced-bits}
-
--- An array of the geometry: D entries, each empty or a pattern of it.
-pub record Sound (g : Geometry) (es : Array) : Type 0 where
-  pub long : length es ≡ g .depth
-  pub fits : (a p : ℕ) → entryAt es a ≡ pattern p → p < patterns g
 
 length-map : (es : Array) → length (map wordOf es) ≡ length es
 length-map [] = refl

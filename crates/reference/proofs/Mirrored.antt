@@ -178,19 +178,19 @@ module _ (g : Geometry) (f : Facts g) (t : Tables) (mirrors : Mirrors g t) (key 
 
 -- ---- the two calls
 
-module _ (g : Geometry) (ok : valid g ≡ true) (t : Tables) (mirrors : Mirrors g t) (key : ℕ) (small : key < patterns g) where
-  lengths-pass : badLengths g t ≡ false
-  unfolding badLengths
-  lengths-pass = rw (eq-eqb _ _ (mirrors .entries), eq-eqb _ _ (mirrors .words))
+pub lengths-pass : (g : Geometry) (t : Tables) → Mirrors g t → badLengths g t ≡ false
+unfolding badLengths
+lengths-pass g t mirrors = rw (eq-eqb _ _ (mirrors .entries), eq-eqb _ _ (mirrors .words))
 
+module _ (g : Geometry) (ok : valid g ≡ true) (t : Tables) (mirrors : Mirrors g t) (key : ℕ) (small : key < patterns g) where
   pub first-match-mirrored : FirstIs g t key (step g t (firstMatch key) .answer)
   unfolding step outcome stops ownStops badMatches firstStop accepted
   first-match-mirrored =
-      rw (ok, lengths-pass, pattern-passes g key .1 small, first-not-false g (facts g ok) t mirrors key small)
+      rw (ok, lengths-pass g t mirrors, pattern-passes g key .1 small, first-not-false g (facts g ok) t mirrors key small)
       (first-is g (facts g ok) t mirrors key small)
 
   pub all-match-mirrored : (m : List ℕ) → length m ≡ matchWords g → AllAre g t key (step g t (allMatch key m) .answer)
   unfolding step outcome stops ownStops badMatches firstStop accepted
   all-match-mirrored m long =
-      rw (ok, lengths-pass, eq-eqb (length m) (matchWords g) long, pattern-passes g key .1 small, none-false g (facts g ok) t mirrors key small)
+      rw (ok, lengths-pass g t mirrors, eq-eqb (length m) (matchWords g) long, pattern-passes g key .1 small, none-false g (facts g ok) t mirrors key small)
       (ap₂ matched (all-are g (facts g ok) t mirrors key small) (all-counted g (facts g ok) t mirrors key small))

@@ -19,7 +19,7 @@ use Rattle.geometry.proofs.Places.{offset-lt, address-past, address-of, word-lt
 use Rattle.geometry.proofs.Stages.{row-lt, row-among, one-stage-kind, one-stage}
 use Rattle.reference.specs.Entry.{Entry, empty, pattern, entryOf, holds}
 use Rattle.reference.specs.Calls.{write, erase, held}
-use Rattle.reference.specs.Array.{Array, entryAt}
+use Rattle.reference.specs.Array.{Array, entryAt, Sound}
 use Rattle.reference.specs.Tables.{Tables, storeWord, storeEntry, cell}
 use Rattle.reference.specs.Image.{covers, covered, entryRows, image}
 use Rattle.reference.specs.Update.{othersCover}
@@ -27,7 +27,7 @@ use Rattle.reference.specs.Steps.{ownStops, stops, step}
 use Rattle.reference.specs.Statements.{EveryBit, holdsStage, othersHold, PatternBits, StageBits}
 use Rattle.reference.proofs.Limits.{pattern-passes}
 use Rattle.reference.proofs.Replaced.{covers-lt, write-passed, write-bits, erase-bits}
-use Rattle.reference.proofs.Image.{Sound, image-cell}
+use Rattle.reference.proofs.Image.{image-cell}
 
 -- what a word of the store holds is a pattern of the geometry
 word-fits : (g : Geometry) (w p : ℕ) → entryOf g w ≡ pattern p → p < patterns g

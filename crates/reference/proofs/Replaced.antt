@@ -3,7 +3,6 @@ use Prim.Native.Nat.{ℕ, _<_}
 use mathlib.Core.Path.{_≡_, refl, sym, ap, _∙_}
 use mathlib.Core.Bool.{Bool, true, false, cond, not, _&&_, _||_, and-eq-true-iff, false≢true}
 use mathlib.Core.List.{List}
-use native.Mathlib.Omega.{arith}
 use lib.Dec.{eqb}
 use lib.ListN.{length, length-set}
 use lib.Seq.{getD-set-same, getD-set-other}
@@ -87,7 +86,7 @@ module _ (g : Geometry) (t : Tables) (c : Call (List ℕ)) (a : ℕ) (e : Entry)
 
 -- Every accepted write and every accepted erase.
 pub write-passed : (g : Geometry) (t : Tables) (a p : ℕ) (e : Entry) → step g t (write a p) .answer ≡ held e → Passed (stops g t (write a p))
-write-passed g t a p e h = not-stopped g t (write a p) (held e) (λ n q. let z : _≡_ {A = ℕ} 0 1 = cc in omega arith) h
+write-passed g t a p e h = not-stopped g t (write a p) (held e) refl h
 
 pub write-bits : (g : Geometry) (t : Tables) (a p : ℕ) (e : Entry) → step g t (write a p) .answer ≡ held e → EveryBit g t (step g t (write a p) .tables) a (pattern p)
 unfolding stops ownStops accepted
@@ -96,5 +95,5 @@ write-bits g t a p e h = let passed = write-passed g t a p e h in puts-bits g t 
 pub erase-bits : (g : Geometry) (t : Tables) (a : ℕ) (e : Entry) → step g t (erase a) .answer ≡ held e → EveryBit g t (step g t (erase a) .tables) a empty
 unfolding stops ownStops accepted
 erase-bits g t a e h =
-    let passed = not-stopped g t (erase a) (held e) (λ n q. let z : _≡_ {A = ℕ} 0 1 = cc in omega arith) h in
+    let passed = not-stopped g t (erase a) (held e) refl h in
     puts-bits g t (erase a) a empty passed (passed .1 .1 .0) refl

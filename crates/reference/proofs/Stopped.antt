@@ -3,7 +3,7 @@
 use Prim.Native.Nat.{ℕ}
 use mathlib.Core.Path.{_≡_, refl, sym, ap, _∙_}
 use mathlib.Core.Logic.{_↔_}
-use mathlib.Core.Bool.{Bool, true, false, _||_, and-eq-true-iff, true≢false}
+use mathlib.Core.Bool.{Bool, true, false, _||_, and-eq-true-iff, true≢false, false≢true}
 use mathlib.Core.List.{List, [], _∷_, _++_, append-nil}
 use mathlib.Core.Option as Option
 use mathlib.Core.Option.{Option}
@@ -15,7 +15,7 @@ use Rattle.words.specs.Seek.{Sought, found, missed}
 use Rattle.geometry.specs.declared.Geometry.{Geometry}
 use Rattle.geometry.specs.Valid.{valid, segmented}
 use Rattle.geometry.specs.Stages.{indicatorWords}
-use Rattle.reference.specs.Calls.{Call, clear, write, erase, read, firstMatch, allMatch, lent, left, Answer, refused, at, none}
+use Rattle.reference.specs.Calls.{Call, clear, write, erase, read, firstMatch, allMatch, lent, left, Answer, refused, cleared, held, at, none, matched}
 use Rattle.reference.specs.Stops.{Stop, _given-when_, firstStop, Passed, FirstApplies}
 use Rattle.reference.specs.Tables.{Tables}
 use Rattle.reference.specs.Search.{seekWord, seekEntry, lowestSet, falseSet, firstIsFalse, answerIn, firstAnswer}
@@ -53,50 +53,59 @@ pub first-stop : (rows : List Stop) (n : ℕ) → FirstApplies rows n → firstS
 unfolding firstStop
 first-stop rows n f = rw (f .split) (below-passed (f .above) (n given-when true ∷ f .below) (f .passed))
 
--- an accepted first-match gives no number: only a false set would
-set-accepted : (g : Geometry) (t : Tables) (key s w n : ℕ) → falseSet g t key s ≡ false → answerIn g t key s w ≡ refused n → ⊥
-unfolding falseSet answerIn
-set-accepted g t key s w n h e = go (eqb (g .kind) segmented) (seekEntry g t key s) refl refl
-  where
-    go : (b : Bool) (r : Sought) → eqb (g .kind) segmented ≡ b → seekEntry g t key s ≡ r → ⊥
-    go true (found o c) p q = let z : _≡_ {A = ℕ} 0 1 = cc (rw (p, answerIn, q) at e) in omega arith
-    go true (missed c) p q = true≢false (rw (p, falseSet, q) at h)
-    go false r p q = let z : _≡_ {A = ℕ} 0 1 = cc (rw (p, answerIn) at e) in omega arith
+-- whether an answer is a refusal number
+abbrev pub isNumber : Answer → Bool
+isNumber (refused n) = true
+isNumber cleared = false
+isNumber (held e) = false
+isNumber (at a w c) = false
+isNumber (none w c) = false
+isNumber (matched ws n) = false
 
-first-accepted : (g : Geometry) (t : Tables) (key n : ℕ) → firstIsFalse g t key ≡ false → firstAnswer g t key ≡ refused n → ⊥
+-- an accepted first-match gives no number: only a false set would
+set-accepted : (g : Geometry) (t : Tables) (key s w : ℕ) → falseSet g t key s ≡ false → isNumber (answerIn g t key s w) ≡ false
+unfolding falseSet answerIn
+set-accepted g t key s w h = go (eqb (g .kind) segmented) (seekEntry g t key s) refl refl
+  where
+    go : (b : Bool) (r : Sought) → eqb (g .kind) segmented ≡ b → seekEntry g t key s ≡ r → isNumber (answerIn g t key s w) ≡ false
+    go true (found o c) p q = rw (p, answerIn, q)
+    go true (missed c) p q = absurd (true≢false (rw (p, falseSet, q) at h))
+    go false r p q = rw (p, answerIn)
+
+first-accepted : (g : Geometry) (t : Tables) (key : ℕ) → firstIsFalse g t key ≡ false → isNumber (firstAnswer g t key) ≡ false
 unfolding firstIsFalse firstAnswer
-first-accepted g t key n = go (seekWord g t key)
+first-accepted g t key = go (seekWord g t key)
   where
     go : (r : Sought) → elim r as (λ x. Bool) [ found j w ↦ falseSet g t key (lowestSet g t key j) | missed w ↦ false ] ≡ false
-        → elim r as (λ x. Answer) [ found j w ↦ answerIn g t key (lowestSet g t key j) w | missed w ↦ none w 0 ] ≡ refused n → ⊥
-    go (found j w) h e = set-accepted g t key (lowestSet g t key j) w n h e
-    go (missed w) h e = let z : _≡_ {A = ℕ} 0 1 = cc in omega arith
+        → isNumber (elim r as (λ x. Answer) [ found j w ↦ answerIn g t key (lowestSet g t key j) w | missed w ↦ none w 0 ]) ≡ false
+    go (found j w) h = set-accepted g t key (lowestSet g t key j) w h
+    go (missed w) h = refl
 
-accepted-no-number : (g : Geometry) (t : Tables) (c : Call (List ℕ)) (n : ℕ) → Passed (ownStops g t c) → accepted g t c .answer ≡ refused n → ⊥
+accepted-no-number : (g : Geometry) (t : Tables) (c : Call (List ℕ)) → Passed (ownStops g t c) → isNumber (accepted g t c .answer) ≡ false
 unfolding accepted ownStops
-accepted-no-number g t clear n p e = let z : _≡_ {A = ℕ} 0 1 = cc in omega arith
-accepted-no-number g t (write a q) n p e = let z : _≡_ {A = ℕ} 0 1 = cc in omega arith
-accepted-no-number g t (erase a) n p e = let z : _≡_ {A = ℕ} 0 1 = cc in omega arith
-accepted-no-number g t (read a) n p e = let z : _≡_ {A = ℕ} 0 1 = cc in omega arith
-accepted-no-number g t (firstMatch key) n p e = first-accepted g t key n (p .1 .0) e
-accepted-no-number g t (allMatch key m) n p e = let z : _≡_ {A = ℕ} 0 1 = cc in omega arith
+accepted-no-number g t clear p = refl
+accepted-no-number g t (write a q) p = refl
+accepted-no-number g t (erase a) p = refl
+accepted-no-number g t (read a) p = refl
+accepted-no-number g t (firstMatch key) p = first-accepted g t key (p .1 .0)
+accepted-no-number g t (allMatch key m) p = refl
 
 pub given-exactly : (g : Geometry) (t : Tables) (c : Call (List ℕ)) (n : ℕ) → (step g t c .answer ≡ refused n) ↔ FirstApplies (stops g t c) n
 unfolding step outcome stops
 given-exactly g t c n = (λ e. stop-first (stops g t c) n (go (firstStop (stops g t c)) refl e), λ f. rw (first-stop (stops g t c) n f))
   where
     go : (r : Option ℕ) → firstStop (stops g t c) ≡ r → outcome g t c r .answer ≡ refused n → r ≡ Option.some n
-    go Option.none s e = absurd (accepted-no-number g t c n (passes (stops g t c) s .1 .1) e)
+    go Option.none s e = absurd (false≢true (sym (accepted-no-number g t c (passes (stops g t c) s .1 .1)) ∙ ap isNumber e))
     go (Option.some m) s e = cc
 
 -- an answer that is no number: no row of the table applied
-pub not-stopped : (g : Geometry) (t : Tables) (c : Call (List ℕ)) (x : Answer) → ((n : ℕ) → x ≡ refused n → ⊥) → step g t c .answer ≡ x → Passed (stops g t c)
+pub not-stopped : (g : Geometry) (t : Tables) (c : Call (List ℕ)) (x : Answer) → isNumber x ≡ false → step g t c .answer ≡ x → Passed (stops g t c)
 unfolding step outcome
 not-stopped g t c x other e = passes (stops g t c) (go (firstStop (stops g t c)) refl e)
   where
     go : (r : Option ℕ) → firstStop (stops g t c) ≡ r → outcome g t c r .answer ≡ x → firstStop (stops g t c) ≡ Option.none
     go Option.none s h = s
-    go (Option.some n) s h = absurd (other n (sym h))
+    go (Option.some n) s h = absurd (false≢true (sym other ∙ ap isNumber (sym h)))
 
 pub passed-valid : (g : Geometry) (t : Tables) (c : Call (List ℕ)) → Passed (stops g t c) → valid g ≡ true
 unfolding stops

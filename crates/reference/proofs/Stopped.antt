@@ -153,3 +153,16 @@ match-word-left g t c = go c (firstStop (stops g t c))
 pub refused-keeps : (g : Geometry) (t : Tables) (c : Call (List ℕ)) (n : ℕ) → step g t c .answer ≡ refused n → (step g t c .tables ≡ t) × (step g t c .matches ≡ lent c)
 unfolding step outcome left
 refused-keeps g t c n e = let stopped = first-stop (stops g t c) n (given-exactly g t c n .0 e) in (rw stopped, rw stopped)
+
+-- "Read and the matches write no table."
+pub reading-keeps : (g : Geometry) (t : Tables) (a key : ℕ) (m : List ℕ)
+    → (step g t (read a) .tables ≡ t) × (step g t (firstMatch key) .tables ≡ t) × (step g t (allMatch key m) .tables ≡ t)
+unfolding step outcome accepted
+reading-keeps g t a key m = (keeps (read a) refl, keeps (firstMatch key) refl, keeps (allMatch key m) refl)
+  where
+    keeps : (c : Call (List ℕ)) → accepted g t c .tables ≡ t → step g t c .tables ≡ t
+    keeps c e = go (firstStop (stops g t c))
+      where
+        go : (r : Option ℕ) → outcome g t c r .tables ≡ t
+        go Option.none = e
+        go (Option.some n) = refl

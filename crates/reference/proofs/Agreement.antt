@@ -22,35 +22,35 @@ use Rattle.geometry.specs.Sizes.{patterns, matchWords}
 use Rattle.geometry.proofs.Facts.{Facts, facts}
 use Rattle.reference.specs.Entry.{Entry, empty, pattern, emptyWord, wordOf, holds}
 use Rattle.reference.specs.Calls.{Call, clear, write, erase, read, firstMatch, allMatch, shape, held, matched}
-use Rattle.reference.specs.Stops.{Stop, _given-when_, firstStop, Passed, badAddress, badPattern}
-use Rattle.reference.specs.Array.{Array, entryAt, lowest, counted, matchesOf, hits, arrayStops, ArrayOutcome, arrayAccepted, arrayOutcome, arrayStep, Sound}
+use Rattle.reference.specs.Refusals.{Refusal, _given-when_, firstRefusal, Passed, badAddress, badPattern}
+use Rattle.reference.specs.Array.{Array, entryAt, lowest, counted, matchesOf, hits, arrayRefusals, ArrayOutcome, arrayAccepted, arrayOutcome, arrayStep, Sound}
 use Rattle.reference.specs.Tables.{storeWord}
 use Rattle.reference.specs.Image.{tablesOf}
 use Rattle.reference.specs.Search.{firstAnswer, takenWords}
 use Rattle.reference.specs.Statements.{Mirrors, FirstIs}
-use Rattle.reference.specs.Steps.{badMatches, badEntry, ownStops, stops, Outcome, accepted, outcome, step}
+use Rattle.reference.specs.Steps.{badMatches, badEntry, ownRefusals, refusals, Outcome, accepted, outcome, step}
 use Rattle.reference.proofs.Limits.{address-passes, pattern-passes}
 use Rattle.reference.proofs.Covering.{holds-word}
 use Rattle.reference.proofs.Mirrored.{lengths-pass, first-is, first-not-false, none-false, all-are, all-counted}
 use Rattle.reference.proofs.Image.{store-word, store-entry, image-mirrors, replaced-image}
 use Rattle.reference.proofs.Lowest.{holding, lowest-is, hits-are}
-use Rattle.reference.proofs.Stopped.{passes}
+use Rattle.reference.proofs.Refused.{passes}
 use Rattle.reference.proofs.Emptied.{emptied-sound, cleared-tables}
 
 -- a last row that does not apply
-last-passes : (rows : List Stop) (n : ℕ) → firstStop (rows ++ (n given-when false ∷ [])) ≡ firstStop rows
-unfolding firstStop
+last-passes : (rows : List Refusal) (n : ℕ) → firstRefusal (rows ++ (n given-when false ∷ [])) ≡ firstRefusal rows
+unfolding firstRefusal
 last-passes [] n = refl
 last-passes ((m given-when true) ∷ rows) n = refl
 last-passes ((m given-when false) ∷ rows) n = last-passes rows n
 
 -- a last row that does not apply where the pattern's row does not
-key-passes : (g : Geometry) (key n : ℕ) (test : Bool) → (key < patterns g → test ≡ false) → (rows : List Stop)
-    → firstStop (rows ++ (4 given-when badPattern g key ∷ n given-when test ∷ [])) ≡ firstStop (rows ++ (4 given-when badPattern g key ∷ []))
-unfolding firstStop
+key-passes : (g : Geometry) (key n : ℕ) (test : Bool) → (key < patterns g → test ≡ false) → (rows : List Refusal)
+    → firstRefusal (rows ++ (4 given-when badPattern g key ∷ n given-when test ∷ [])) ≡ firstRefusal (rows ++ (4 given-when badPattern g key ∷ []))
+unfolding firstRefusal
 key-passes g key n test h [] = go (badPattern g key) refl
   where
-    go : (b : Bool) → badPattern g key ≡ b → firstStop (4 given-when b ∷ n given-when test ∷ []) ≡ firstStop (4 given-when b ∷ [])
+    go : (b : Bool) → badPattern g key ≡ b → firstRefusal (4 given-when b ∷ n given-when test ∷ []) ≡ firstRefusal (4 given-when b ∷ [])
     go true e = refl
     go false e = rw (h (pattern-passes g key .0 e))
 key-passes g key n test h ((m given-when true) ∷ rows) = refl
@@ -81,11 +81,11 @@ module _ (g : Geometry) (ok : valid g ≡ true) (es : Array) (sound : Sound g es
       go empty h = refl
       go (pattern p) h = rw (lt-ltb p (patterns g) (h p refl), or-true (eqb p emptyWord))
 
-  pub same-stops : (c : Call (List ℕ)) → firstStop (stops g (tablesOf g es) c) ≡ firstStop (arrayStops g (shape c))
-  unfolding stops firstStop ownStops arrayStops shape badMatches
-  same-stops c = rw (ok, lengths-pass g (tablesOf g es) mirrors) (go c)
+  pub same-refusals : (c : Call (List ℕ)) → firstRefusal (refusals g (tablesOf g es) c) ≡ firstRefusal (arrayRefusals g (shape c))
+  unfolding refusals firstRefusal ownRefusals arrayRefusals shape badMatches
+  same-refusals c = rw (ok, lengths-pass g (tablesOf g es) mirrors) (go c)
     where
-      go : (c : Call (List ℕ)) → firstStop (2 given-when badMatches g c ∷ ownStops g (tablesOf g es) c) ≡ firstStop (arrayStops g (shape c))
+      go : (c : Call (List ℕ)) → firstRefusal (2 given-when badMatches g c ∷ ownRefusals g (tablesOf g es) c) ≡ firstRefusal (arrayRefusals g (shape c))
       go clear = refl
       go (write a p) = rw (entry-passes a) (last-passes (3 given-when badAddress g a ∷ 4 given-when badPattern g p ∷ []) 5)
       go (erase a) = rw (entry-passes a) (last-passes (3 given-when badAddress g a ∷ []) 5)
@@ -137,8 +137,8 @@ module _ (g : Geometry) (ok : valid g ≡ true) (es : Array) (sound : Sound g es
       go b p true q k = h p (sym (getD-set-same es a e empty (omega (arith, sound .long))) ∙ (rw (eqb-true b a q) at k))
       go b p false q k = sound .fits b p (sym (getD-set-other es a b e empty (eqb-false b a q)) ∙ k)
 
-  accepted-agrees : (c : Call (List ℕ)) → Passed (arrayStops g (shape c)) → Agrees g (accepted g (tablesOf g es) c) (arrayAccepted g es (shape c))
-  unfolding accepted arrayAccepted arrayStops shape
+  accepted-agrees : (c : Call (List ℕ)) → Passed (arrayRefusals g (shape c)) → Agrees g (accepted g (tablesOf g es) c) (arrayAccepted g es (shape c))
+  unfolding accepted arrayAccepted arrayRefusals shape
   accepted-agrees clear p = record { answer = refl; tables = cleared-tables g; sound = emptied-sound g }
   accepted-agrees (write a q) p =
       let inside : a < g .depth = address-passes g a .0 (p .0) in
@@ -163,8 +163,8 @@ module _ (g : Geometry) (ok : valid g ≡ true) (es : Array) (sound : Sound g es
 
   pub agrees : (c : Call (List ℕ)) → Agrees g (step g (tablesOf g es) c) (arrayStep g es (shape c))
   unfolding step arrayStep outcome arrayOutcome
-  agrees c = rw (same-stops c) (go (firstStop (arrayStops g (shape c))) refl)
+  agrees c = rw (same-refusals c) (go (firstRefusal (arrayRefusals g (shape c))) refl)
     where
-      go : (r : Option ℕ) → firstStop (arrayStops g (shape c)) ≡ r → Agrees g (outcome g (tablesOf g es) c r) (arrayOutcome g es (shape c) r)
-      go Option.none e = accepted-agrees c (passes (arrayStops g (shape c)) e)
+      go : (r : Option ℕ) → firstRefusal (arrayRefusals g (shape c)) ≡ r → Agrees g (outcome g (tablesOf g es) c r) (arrayOutcome g es (shape c) r)
+      go Option.none e = accepted-agrees c (passes (arrayRefusals g (shape c)) e)
       go (Option.some n) e = record { answer = refl; tables = refl; sound = sound }

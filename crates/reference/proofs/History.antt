@@ -14,18 +14,18 @@ use Rattle.geometry.specs.declared.Geometry.{Geometry}
 use Rattle.geometry.specs.Valid.{valid}
 use Rattle.geometry.proofs.Facts.{facts}
 use Rattle.reference.specs.Entry.{empty}
-use Rattle.reference.specs.Calls.{Call, clear, write, erase, read, firstMatch, allMatch, shape, lent, left, Answer, refused, cleared}
-use Rattle.reference.specs.Stops.{Stop, _given-when_, firstStop, Passed, FirstApplies}
-use Rattle.reference.specs.Array.{Array, emptied, arrayStops, arrayAccepted, arrayOutcome, arrayStep, Sound}
+use Rattle.reference.specs.Calls.{Call, clear, write, erase, read, firstMatch, allMatch, shape, lent, matchesAfter, Answer, refused, cleared}
+use Rattle.reference.specs.Refusals.{Refusal, _given-when_, firstRefusal, Passed, FirstApplies}
+use Rattle.reference.specs.Array.{Array, emptied, arrayRefusals, arrayAccepted, arrayOutcome, arrayStep, Sound}
 use Rattle.reference.specs.Tables.{Tables, storeEntry}
 use Rattle.reference.specs.Image.{tablesOf}
-use Rattle.reference.specs.Steps.{badMatches, stops, accepted, outcome, step, Outcome}
+use Rattle.reference.specs.Steps.{badMatches, refusals, accepted, outcome, step, Outcome}
 use Rattle.reference.specs.History.{History, run, after, arrayAnswers, arrayAfter, arrayOf}
 use Rattle.reference.specs.Statements.{Follows}
 use Rattle.reference.proofs.Image.{store-entry}
 use Rattle.reference.proofs.Emptied.{emptied-sound, cleared-tables}
-use Rattle.reference.proofs.Stopped.{passed-none, stop-first, first-stop, given-exactly, not-stopped, passed-valid, match-word-left}
-use Rattle.reference.proofs.Agreement.{same-stops, agrees}
+use Rattle.reference.proofs.Refused.{passed-none, refusal-first, first-refusal, given-exactly, not-refused, passed-valid, matches-after}
+use Rattle.reference.proofs.Agreement.{same-refusals, agrees}
 
 -- ---- from the tables of an array on
 
@@ -49,31 +49,31 @@ module _ (g : Geometry) (ok : valid g ≡ true) where
   sound-follow es sound [] = sound
   sound-follow es sound (c ∷ cs) = sound-follow (arrayStep g es (shape c) .array) (agrees g ok es sound c .sound) cs
 
-matches-left : (g : Geometry) (t : Tables) (cs : History)
-    → map (λ (o : Outcome). o .matches) (run g t cs) ≡ zipWith left (map (λ (o : Outcome). o .answer) (run g t cs)) (map lent cs)
+matches-follow : (g : Geometry) (t : Tables) (cs : History)
+    → map (λ (o : Outcome). o .matches) (run g t cs) ≡ zipWith matchesAfter (map (λ (o : Outcome). o .answer) (run g t cs)) (map lent cs)
 unfolding run zipWith
-matches-left g t [] = refl
-matches-left g t (c ∷ cs) = ap₂ (λ (x : List ℕ) (xs : List (List ℕ)). x ∷ xs) (match-word-left g t c) (matches-left g (step g t c .tables) cs)
+matches-follow g t [] = refl
+matches-follow g t (c ∷ cs) = ap₂ (λ (x : List ℕ) (xs : List (List ℕ)). x ∷ xs) (matches-after g t c) (matches-follow g (step g t c .tables) cs)
 
 -- ---- from an accepted clear on, whatever the tables held
 
-clear-passes : (g : Geometry) (t : Tables) → step g t clear .answer ≡ cleared → Passed (stops g t clear)
-clear-passes g t e = not-stopped g t clear cleared refl e
+clear-passes : (g : Geometry) (t : Tables) → step g t clear .answer ≡ cleared → Passed (refusals g t clear)
+clear-passes g t e = not-refused g t clear cleared refl e
 
 pub clear-valid : (g : Geometry) (t : Tables) → step g t clear .answer ≡ cleared → valid g ≡ true
 clear-valid g t e = passed-valid g t clear (clear-passes g t e)
 
 clear-empties : (g : Geometry) (t : Tables) → step g t clear .answer ≡ cleared → step g t clear .tables ≡ tablesOf g (emptied g)
 unfolding step outcome accepted
-clear-empties g t e = rw (passed-none (stops g t clear) (clear-passes g t e)) (cleared-tables g)
+clear-empties g t e = rw (passed-none (refusals g t clear) (clear-passes g t e)) (cleared-tables g)
 
 pub history : (g : Geometry) (t : Tables) (cs : History) → step g t clear .answer ≡ cleared → Follows g t (clear ∷ cs)
-unfolding run after arrayAnswers arrayAfter arrayStep arrayOutcome arrayStops firstStop arrayAccepted shape
+unfolding run after arrayAnswers arrayAfter arrayStep arrayOutcome arrayRefusals firstRefusal arrayAccepted shape
 history g t cs e =
     let ok = clear-valid g t e in
     record {
       answers = ap₂ (λ (x : Answer) (xs : List Answer). x ∷ xs) e (rw (clear-empties g t e) (answers-follow g ok (emptied g) (emptied-sound g) cs));
-      matches = matches-left g t (clear ∷ cs);
+      matches = matches-follow g t (clear ∷ cs);
       tables = rw (clear-empties g t e) (tables-follow g ok (emptied g) (emptied-sound g) cs);
     }
 
@@ -97,21 +97,21 @@ equal-tables g t u cs ds e d =
 -- ---- which numbers a later call can get
 
 -- every row says P of its number where its test holds
-abbrev Each : (ℕ → Type 0) → List Stop → Type 0
+abbrev Each : (ℕ → Type 0) → List Refusal → Type 0
 Each P [] = Unit
 Each P ((n given-when test) ∷ rest) = (test ≡ true → P n) × Each P rest
 
 -- in such a history a call is stopped by the plain array's rows and by no other
-pub later-stops : (g : Geometry) (t : Tables) (cs : History) (c : Call (List ℕ)) (n : ℕ) → step g t clear .answer ≡ cleared
-    → step g (after g t (clear ∷ cs)) c .answer ≡ refused n → FirstApplies (arrayStops g (shape c)) n
-later-stops g t cs c n e h =
+pub later-refusals : (g : Geometry) (t : Tables) (cs : History) (c : Call (List ℕ)) (n : ℕ) → step g t clear .answer ≡ cleared
+    → step g (after g t (clear ∷ cs)) c .answer ≡ refused n → FirstApplies (arrayRefusals g (shape c)) n
+later-refusals g t cs c n e h =
     let p = history g t cs e .tables in
-    let given = first-stop _ n (given-exactly g (tablesOf g (arrayOf g (clear ∷ cs))) c n .0 (rw p at h)) in
-    stop-first _ n (sym (same-stops g (clear-valid g t e) _ (array-sound g t cs e) c) ∙ given)
+    let given = first-refusal _ n (given-exactly g (tablesOf g (arrayOf g (clear ∷ cs))) c n .0 (rw p at h)) in
+    refusal-first _ n (sym (same-refusals g (clear-valid g t e) _ (array-sound g t cs e) c) ∙ given)
 
 -- what each row says when its test holds, the row that is given says
-given-says : (P : ℕ → Type 0) (rows : List Stop) (n : ℕ) → Each P rows → firstStop rows ≡ Option.some n → P n
-unfolding firstStop
+given-says : (P : ℕ → Type 0) (rows : List Refusal) (n : ℕ) → Each P rows → firstRefusal rows ≡ Option.some n → P n
+unfolding firstRefusal
 given-says P [] n each e = absurd (let z : _≡_ {A = ℕ} 0 1 = cc in omega arith)
 given-says P ((m given-when true) ∷ rest) n each e = let same : m ≡ n = cc in rw same at (each .0 refl)
 given-says P ((m given-when false) ∷ rest) n each e = given-says P rest n (each .1) e
@@ -119,10 +119,10 @@ given-says P ((m given-when false) ∷ rest) n each e = given-says P rest n (eac
 -- So 1, 5 and 6 do not occur after an accepted clear, and 2 only for a match word of wrong length.
 pub later-numbers : (g : Geometry) (t : Tables) (cs : History) (c : Call (List ℕ)) (n : ℕ) → step g t clear .answer ≡ cleared
     → step g (after g t (clear ∷ cs)) c .answer ≡ refused n → (n ≡ 3) ⊎ ((n ≡ 4) ⊎ ((n ≡ 2) × (badMatches g c ≡ true)))
-unfolding arrayStops shape badMatches
-later-numbers g t cs c n e h = given-says _ (arrayStops g (shape c)) n (each c) (first-stop _ n (later-stops g t cs c n e h))
+unfolding arrayRefusals shape badMatches
+later-numbers g t cs c n e h = given-says _ (arrayRefusals g (shape c)) n (each c) (first-refusal _ n (later-refusals g t cs c n e h))
   where
-    each : (c : Call (List ℕ)) → Each (λ n. (n ≡ 3) ⊎ ((n ≡ 4) ⊎ ((n ≡ 2) × (badMatches g c ≡ true)))) (arrayStops g (shape c))
+    each : (c : Call (List ℕ)) → Each (λ n. (n ≡ 3) ⊎ ((n ≡ 4) ⊎ ((n ≡ 2) × (badMatches g c ≡ true)))) (arrayRefusals g (shape c))
     each clear = tt
     each (write a p) = (λ b. inl refl, (λ b. inr (inl refl), tt))
     each (erase a) = (λ b. inl refl, tt)

@@ -6,7 +6,7 @@ pub mod Indicated
 pub mod Mirrored
 pub mod Image
 pub mod Lowest
-pub mod Stopped
+pub mod Refused
 pub mod Emptied
 pub mod Agreement
 pub mod History

@@ -6,7 +6,7 @@ use mathlib.Core.Bool.{false}
 use borrow.Author.Tests.{leb-false, lt-leb}
 use Rattle.geometry.specs.declared.Geometry.{Geometry}
 use Rattle.geometry.specs.Sizes.{patterns}
-use Rattle.reference.specs.Stops.{badAddress, badPattern}
+use Rattle.reference.specs.Refusals.{badAddress, badPattern}
 
 pub address-passes : (g : Geometry) (a : ℕ) → (badAddress g a ≡ false) ↔ (a < g .depth)
 unfolding badAddress

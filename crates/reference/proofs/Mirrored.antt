@@ -23,11 +23,11 @@ use Rattle.geometry.proofs.Facts.{Facts, facts, patterns-most}
 use Rattle.geometry.proofs.Places.{set-lt, offset-lt, address-lt, address-of, set-of, offset-of, below-address, set-past, word-of, sets-most, matches-most}
 use Rattle.reference.specs.Entry.{emptyWord}
 use Rattle.reference.specs.Calls.{firstMatch, allMatch, none, matched}
-use Rattle.reference.specs.Stops.{firstStop}
+use Rattle.reference.specs.Refusals.{firstRefusal}
 use Rattle.reference.specs.Tables.{Tables}
 use Rattle.reference.specs.Statements.{Mirrors, stores, FirstIs, AllAre}
 use Rattle.reference.specs.Search.{joined, indicated, seekWord, seekEntry, lowestSet, falseSet, firstIsFalse, anyIsFalse, answerIn, firstAnswer, taken, takenWords}
-use Rattle.reference.specs.Steps.{badLengths, badMatches, ownStops, stops, accepted, outcome, step}
+use Rattle.reference.specs.Steps.{badLengths, badMatches, ownRefusals, refusals, accepted, outcome, step}
 use Rattle.reference.proofs.Limits.{pattern-passes}
 use Rattle.reference.proofs.Indicated.{joined-lt, indicated-out, indicated-in, indicated-is}
 
@@ -184,13 +184,13 @@ lengths-pass g t mirrors = rw (eq-eqb _ _ (mirrors .entries), eq-eqb _ _ (mirror
 
 module _ (g : Geometry) (ok : valid g ≡ true) (t : Tables) (mirrors : Mirrors g t) (key : ℕ) (small : key < patterns g) where
   pub first-match-mirrored : FirstIs g t key (step g t (firstMatch key) .answer)
-  unfolding step outcome stops ownStops badMatches firstStop accepted
+  unfolding step outcome refusals ownRefusals badMatches firstRefusal accepted
   first-match-mirrored =
       rw (ok, lengths-pass g t mirrors, pattern-passes g key .1 small, first-not-false g (facts g ok) t mirrors key small)
       (first-is g (facts g ok) t mirrors key small)
 
   pub all-match-mirrored : (m : List ℕ) → length m ≡ matchWords g → AllAre g t key (step g t (allMatch key m) .answer)
-  unfolding step outcome stops ownStops badMatches firstStop accepted
+  unfolding step outcome refusals ownRefusals badMatches firstRefusal accepted
   all-match-mirrored m long =
       rw (ok, lengths-pass g t mirrors, eq-eqb (length m) (matchWords g) long, pattern-passes g key .1 small, none-false g (facts g ok) t mirrors key small)
       (ap₂ matched (all-are g (facts g ok) t mirrors key small) (all-counted g (facts g ok) t mirrors key small))

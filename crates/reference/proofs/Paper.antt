@@ -23,7 +23,7 @@ use Rattle.reference.specs.Array.{Array, entryAt, Sound}
 use Rattle.reference.specs.Tables.{Tables, storeWord, storeEntry, cell}
 use Rattle.reference.specs.Image.{covers, covered, entryRows, image}
 use Rattle.reference.specs.Update.{othersCover}
-use Rattle.reference.specs.Steps.{ownStops, stops, step}
+use Rattle.reference.specs.Steps.{ownRefusals, refusals, step}
 use Rattle.reference.specs.Statements.{EveryBit, holdsStage, othersHold, PatternBits, StageBits}
 use Rattle.reference.proofs.Limits.{pattern-passes}
 use Rattle.reference.proofs.Replaced.{covers-lt, write-passed, write-bits, erase-bits}
@@ -99,7 +99,7 @@ module _ (g : Geometry) (ok : valid g ≡ true) (kind : eqb (g .kind) cascaded �
           (λ o l. ap (λ x. not (eqb (addressOf g (setOf g a) o) a) && x) (covers-pattern (storeEntry g t (addressOf g (setOf g a) o)) (word-fits g (storeWord t (addressOf g (setOf g a) o))) r))
 
   pub write-patterns : (t : Tables) (a p : ℕ) (e : Entry) → step g t (write a p) .answer ≡ held e → PatternBits g t (step g t (write a p) .tables) a (pattern p)
-  unfolding stops ownStops
+  unfolding refusals ownRefusals
   write-patterns t a p e h = pattern-bits t _ a (pattern p) (λ q same. let is : p ≡ q = cc in omega (arith, small)) (write-bits g t a p e h)
     where
       small : p < patterns g

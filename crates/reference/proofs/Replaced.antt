@@ -18,14 +18,14 @@ use Rattle.geometry.proofs.Places.{set-lt}
 use Rattle.geometry.proofs.Stages.{stage-lt, row-lt}
 use Rattle.reference.specs.Entry.{Entry, empty, pattern, wordOf}
 use Rattle.reference.specs.Calls.{Call, write, erase, held}
-use Rattle.reference.specs.Stops.{Passed, badAddress}
+use Rattle.reference.specs.Refusals.{Passed, badAddress}
 use Rattle.reference.specs.Tables.{Tables, storeEntry, cell, belongs}
 use Rattle.reference.specs.Image.{entryRows, covers}
 use Rattle.reference.specs.Statements.{EveryBit}
 use Rattle.reference.specs.Update.{othersCover, released, replaced}
-use Rattle.reference.specs.Steps.{ownStops, stops, accepted, outcome, step}
+use Rattle.reference.specs.Steps.{ownRefusals, refusals, accepted, outcome, step}
 use Rattle.reference.proofs.Limits.{address-passes}
-use Rattle.reference.proofs.Stopped.{passed-none, not-stopped, passed-valid, passed-lengths}
+use Rattle.reference.proofs.Refused.{passed-none, not-refused, passed-valid, passed-lengths}
 use Rattle.reference.proofs.Cells.{length-change, set-cell, clear-cell}
 
 -- what an entry covers is a row of the indicators
@@ -76,24 +76,24 @@ replaced-bits g f t a e ha stored indicated = record {
     formula false false O false c = refl
 
 -- A call that passed the table and puts e at address a.
-module _ (g : Geometry) (t : Tables) (c : Call (List ℕ)) (a : ℕ) (e : Entry) (passed : Passed (stops g t c))
+module _ (g : Geometry) (t : Tables) (c : Call (List ℕ)) (a : ℕ) (e : Entry) (passed : Passed (refusals g t c))
     (inside : badAddress g a ≡ false) (puts : accepted g t c .tables ≡ replaced g t a e) where
   puts-bits : EveryBit g t (step g t c .tables) a e
   unfolding step outcome
   puts-bits =
       let lengths = passed-lengths g t c passed in
-      rw (passed-none (stops g t c) passed, puts) (replaced-bits g (facts g (passed-valid g t c passed)) t a e (address-passes g a .0 inside) (lengths .0) (lengths .1))
+      rw (passed-none (refusals g t c) passed, puts) (replaced-bits g (facts g (passed-valid g t c passed)) t a e (address-passes g a .0 inside) (lengths .0) (lengths .1))
 
 -- Every accepted write and every accepted erase.
-pub write-passed : (g : Geometry) (t : Tables) (a p : ℕ) (e : Entry) → step g t (write a p) .answer ≡ held e → Passed (stops g t (write a p))
-write-passed g t a p e h = not-stopped g t (write a p) (held e) refl h
+pub write-passed : (g : Geometry) (t : Tables) (a p : ℕ) (e : Entry) → step g t (write a p) .answer ≡ held e → Passed (refusals g t (write a p))
+write-passed g t a p e h = not-refused g t (write a p) (held e) refl h
 
 pub write-bits : (g : Geometry) (t : Tables) (a p : ℕ) (e : Entry) → step g t (write a p) .answer ≡ held e → EveryBit g t (step g t (write a p) .tables) a (pattern p)
-unfolding stops ownStops accepted
+unfolding refusals ownRefusals accepted
 write-bits g t a p e h = let passed = write-passed g t a p e h in puts-bits g t (write a p) a (pattern p) passed (passed .1 .1 .0) refl
 
 pub erase-bits : (g : Geometry) (t : Tables) (a : ℕ) (e : Entry) → step g t (erase a) .answer ≡ held e → EveryBit g t (step g t (erase a) .tables) a empty
-unfolding stops ownStops accepted
+unfolding refusals ownRefusals accepted
 erase-bits g t a e h =
-    let passed = not-stopped g t (erase a) (held e) refl h in
+    let passed = not-refused g t (erase a) (held e) refl h in
     puts-bits g t (erase a) a empty passed (passed .1 .1 .0) refl

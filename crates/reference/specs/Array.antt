@@ -14,7 +14,7 @@ use Rattle.geometry.specs.Valid.{segmented}
 use Rattle.geometry.specs.Sizes.{patterns, rowWords, matchWords, offsetOf}
 use Rattle.reference.specs.Entry.{Entry, empty, pattern, holds}
 use Rattle.reference.specs.Calls.{Call, clear, write, erase, read, firstMatch, allMatch, Answer, refused, cleared, held, at, none, matched}
-use Rattle.reference.specs.Stops.{Stop, _given-when_, firstStop, badAddress, badPattern}
+use Rattle.reference.specs.Refusals.{Refusal, _given-when_, firstRefusal, badAddress, badPattern}
 
 -- "Its state is D entries, each empty or a pattern." Sound arrays are of that kind; every history leaves one.
 abbrev pub Array : Type 0
@@ -51,13 +51,13 @@ hits key [] = 0
 hits key (e ∷ es) = cond (holds e key) 1 0 + hits key es
 
 -- "It refuses with 3, 4 and, for an all-match word of wrong length, 2, in the order below."
-unfoldable pub arrayStops : Geometry → Call ℕ → List Stop
-arrayStops g clear = []
-arrayStops g (write a p) = 3 given-when badAddress g a ∷ 4 given-when badPattern g p ∷ []
-arrayStops g (erase a) = 3 given-when badAddress g a ∷ []
-arrayStops g (read a) = 3 given-when badAddress g a ∷ []
-arrayStops g (firstMatch key) = 4 given-when badPattern g key ∷ []
-arrayStops g (allMatch key len) = 2 given-when not (eqb len (matchWords g)) ∷ 4 given-when badPattern g key ∷ []
+unfoldable pub arrayRefusals : Geometry → Call ℕ → List Refusal
+arrayRefusals g clear = []
+arrayRefusals g (write a p) = 3 given-when badAddress g a ∷ 4 given-when badPattern g p ∷ []
+arrayRefusals g (erase a) = 3 given-when badAddress g a ∷ []
+arrayRefusals g (read a) = 3 given-when badAddress g a ∷ []
+arrayRefusals g (firstMatch key) = 4 given-when badPattern g key ∷ []
+arrayRefusals g (allMatch key len) = 2 given-when not (eqb len (matchWords g)) ∷ 4 given-when badPattern g key ∷ []
 
 pub record ArrayOutcome : Type 0 where
   pub answer : Answer
@@ -78,4 +78,4 @@ arrayOutcome g es c Option.none = arrayAccepted g es c
 arrayOutcome g es c (Option.some n) = record { answer = refused n; array = es }
 
 unfoldable pub arrayStep : Geometry → Array → Call ℕ → ArrayOutcome
-arrayStep g es c = arrayOutcome g es c (firstStop (arrayStops g c))
+arrayStep g es c = arrayOutcome g es c (firstRefusal (arrayRefusals g c))

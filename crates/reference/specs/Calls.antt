@@ -42,10 +42,10 @@ pub data Answer : Type 0 where
   matched : (matches : List ℕ) (hits : ℕ) → Answer
 
 -- The match word that a call leaves: the one in its answer, and the lent one where the answer has none.
-unfoldable pub left : Answer → (lent : List ℕ) → List ℕ
-left (refused n) m = m
-left cleared m = m
-left (held e) m = m
-left (at a w c) m = m
-left (none w c) m = m
-left (matched ws n) m = ws
+unfoldable pub matchesAfter : Answer → (lent : List ℕ) → List ℕ
+matchesAfter (refused n) m = m
+matchesAfter cleared m = m
+matchesAfter (held e) m = m
+matchesAfter (at a w c) m = m
+matchesAfter (none w c) m = m
+matchesAfter (matched ws n) m = ws

@@ -1,6 +1,6 @@
 pub mod Entry
 pub mod Calls
-pub mod Stops
+pub mod Refusals
 pub mod Array
 pub mod Tables
 pub mod Image

@@ -13,7 +13,7 @@ use Rattle.geometry.specs.Valid.{segmented}
 use Rattle.geometry.specs.Sizes.{sets, rowWords, matchWords, setOf, offsetOf, addressOf}
 use Rattle.geometry.specs.Stages.{stages, stageWidth, stage, rows, indicatorWords}
 use Rattle.reference.specs.Entry.{Entry, empty, pattern, wordOf, holds}
-use Rattle.reference.specs.Calls.{Answer, at, none, matched, shape, lent, left}
+use Rattle.reference.specs.Calls.{Answer, at, none, matched, shape, lent, matchesAfter}
 use Rattle.reference.specs.Array.{emptied}
 use Rattle.reference.specs.Tables.{Tables, storeWord, storeEntry, cell, belongs}
 use Rattle.reference.specs.Image.{covers, covered, tablesOf}
@@ -27,7 +27,7 @@ use Rattle.reference.specs.History.{History, run, after, arrayAnswers, a
 -- a refusal; and at the end the store and every indicator word, padding bits included.
 pub record Follows (g : Geometry) (t : Tables) (cs : History) : Type 0 where
   pub answers : map (λ (o : Outcome). o .answer) (run g t cs) ≡ arrayAnswers g (emptied g) (map shape cs)
-  pub matches : map (λ (o : Outcome). o .matches) (run g t cs) ≡ zipWith left (map (λ (o : Outcome). o .answer) (run g t cs)) (map lent cs)
+  pub matches : map (λ (o : Outcome). o .matches) (run g t cs) ≡ zipWith matchesAfter (map (λ (o : Outcome). o .answer) (run g t cs)) (map lent cs)
   pub tables : after g t cs ≡ tablesOf g (arrayOf g cs)
 
 -- ---- demand 2, where the indicators mirror the store

@@ -13,7 +13,7 @@ use Rattle.geometry.specs.Sizes.{patterns, matchWords}
 use Rattle.geometry.specs.Stages.{indicatorWords}
 use Rattle.reference.specs.Entry.{empty, pattern, emptyWord}
 use Rattle.reference.specs.Calls.{Call, clear, write, erase, read, firstMatch, allMatch, Answer, refused, cleared, held, matched, lent}
-use Rattle.reference.specs.Stops.{Stop, _given-when_, firstStop, badAddress, badPattern}
+use Rattle.reference.specs.Refusals.{Refusal, _given-when_, firstRefusal, badAddress, badPattern}
 use Rattle.reference.specs.Tables.{Tables, storeWord, storeEntry}
 use Rattle.reference.specs.Update.{replaced}
 use Rattle.reference.specs.Search.{firstIsFalse, anyIsFalse, firstAnswer, takenWords}
@@ -36,17 +36,17 @@ unfoldable pub badEntry : Geometry → Tables → ℕ → Bool
 badEntry g t a = not (eqb (storeWord t a) emptyWord || ltb (storeWord t a) (patterns g))
 
 -- Rows 3 to 6 of the table at a call.
-unfoldable pub ownStops : Geometry → Tables → Call (List ℕ) → List Stop
-ownStops g t clear = []
-ownStops g t (write a p) = 3 given-when badAddress g a ∷ 4 given-when badPattern g p ∷ 5 given-when badEntry g t a ∷ []
-ownStops g t (erase a) = 3 given-when badAddress g a ∷ 5 given-when badEntry g t a ∷ []
-ownStops g t (read a) = 3 given-when badAddress g a ∷ 5 given-when badEntry g t a ∷ []
-ownStops g t (firstMatch key) = 4 given-when badPattern g key ∷ 6 given-when firstIsFalse g t key ∷ []
-ownStops g t (allMatch key m) = 4 given-when badPattern g key ∷ 6 given-when anyIsFalse g t key ∷ []
+unfoldable pub ownRefusals : Geometry → Tables → Call (List ℕ) → List Refusal
+ownRefusals g t clear = []
+ownRefusals g t (write a p) = 3 given-when badAddress g a ∷ 4 given-when badPattern g p ∷ 5 given-when badEntry g t a ∷ []
+ownRefusals g t (erase a) = 3 given-when badAddress g a ∷ 5 given-when badEntry g t a ∷ []
+ownRefusals g t (read a) = 3 given-when badAddress g a ∷ 5 given-when badEntry g t a ∷ []
+ownRefusals g t (firstMatch key) = 4 given-when badPattern g key ∷ 6 given-when firstIsFalse g t key ∷ []
+ownRefusals g t (allMatch key m) = 4 given-when badPattern g key ∷ 6 given-when anyIsFalse g t key ∷ []
 
 -- The whole table at a call.
-unfoldable pub stops : Geometry → Tables → Call (List ℕ) → List Stop
-stops g t c = 1 given-when not (valid g) ∷ 2 given-when (badLengths g t || badMatches g c) ∷ ownStops g t c
+unfoldable pub refusals : Geometry → Tables → Call (List ℕ) → List Refusal
+refusals g t c = 1 given-when not (valid g) ∷ 2 given-when (badLengths g t || badMatches g c) ∷ ownRefusals g t c
 
 -- What a call leaves: its answer, both tables, and the match word that it was lent.
 pub record Outcome : Type 0 where
@@ -77,4 +77,4 @@ outcome g t c Option.none = accepted g t c
 outcome g t c (Option.some n) = record { answer = refused n; tables = t; matches = lent c }
 
 unfoldable pub step : Geometry → Tables → Call (List ℕ) → Outcome
-step g t c = outcome g t c (firstStop (stops g t c))
+step g t c = outcome g t c (firstRefusal (refusals g t c))

@@ -15,43 +15,43 @@ use Rattle.words.specs.Seek.{Sought, found, missed}
 use Rattle.geometry.specs.declared.Geometry.{Geometry}
 use Rattle.geometry.specs.Valid.{valid, segmented}
 use Rattle.geometry.specs.Stages.{indicatorWords}
-use Rattle.reference.specs.Calls.{Call, clear, write, erase, read, firstMatch, allMatch, lent, left, Answer, refused, cleared, held, at, none, matched}
-use Rattle.reference.specs.Stops.{Stop, _given-when_, firstStop, Passed, FirstApplies}
+use Rattle.reference.specs.Calls.{Call, clear, write, erase, read, firstMatch, allMatch, lent, matchesAfter, Answer, refused, cleared, held, at, none, matched}
+use Rattle.reference.specs.Refusals.{Refusal, _given-when_, firstRefusal, Passed, FirstApplies}
 use Rattle.reference.specs.Tables.{Tables}
 use Rattle.reference.specs.Search.{seekWord, seekEntry, lowestSet, falseSet, firstIsFalse, answerIn, firstAnswer}
-use Rattle.reference.specs.Steps.{badLengths, badMatches, ownStops, stops, accepted, outcome, step}
+use Rattle.reference.specs.Steps.{badLengths, badMatches, ownRefusals, refusals, accepted, outcome, step}
 
 -- the table is passed exactly when it is passed row by row
-pub passes : (rows : List Stop) → firstStop rows ≡ Option.none → Passed rows
-unfolding firstStop
+pub passes : (rows : List Refusal) → firstRefusal rows ≡ Option.none → Passed rows
+unfolding firstRefusal
 passes [] e = tt
 passes ((n given-when true) ∷ rest) e = absurd (let z : _≡_ {A = ℕ} 0 1 = cc in omega arith)
 passes ((n given-when false) ∷ rest) e = (refl, passes rest e)
 
 -- what lies below rows that pass decides
-below-passed : (above rest : List Stop) → Passed above → firstStop (above ++ rest) ≡ firstStop rest
-unfolding firstStop
+below-passed : (above rest : List Refusal) → Passed above → firstRefusal (above ++ rest) ≡ firstRefusal rest
+unfolding firstRefusal
 below-passed [] rest p = refl
 below-passed ((n given-when true) ∷ above) rest p = absurd (true≢false (p .0))
 below-passed ((n given-when false) ∷ above) rest p = below-passed above rest (p .1)
 
-pub passed-none : (rows : List Stop) → Passed rows → firstStop rows ≡ Option.none
-unfolding firstStop
-passed-none rows p = ap firstStop (sym (append-nil rows)) ∙ below-passed rows [] p
+pub passed-none : (rows : List Refusal) → Passed rows → firstRefusal rows ≡ Option.none
+unfolding firstRefusal
+passed-none rows p = ap firstRefusal (sym (append-nil rows)) ∙ below-passed rows [] p
 
-pub stop-first : (rows : List Stop) (n : ℕ) → firstStop rows ≡ Option.some n → FirstApplies rows n
-unfolding firstStop
-stop-first [] n e = absurd (let z : _≡_ {A = ℕ} 0 1 = cc in omega arith)
-stop-first ((m given-when true) ∷ rest) n e =
+pub refusal-first : (rows : List Refusal) (n : ℕ) → firstRefusal rows ≡ Option.some n → FirstApplies rows n
+unfolding firstRefusal
+refusal-first [] n e = absurd (let z : _≡_ {A = ℕ} 0 1 = cc in omega arith)
+refusal-first ((m given-when true) ∷ rest) n e =
     let same : m ≡ n = cc in
     record { above = []; below = rest; split = ap (λ k. k given-when true ∷ rest) same; passed = tt }
-stop-first ((m given-when false) ∷ rest) n e =
-    let f = stop-first rest n e in
+refusal-first ((m given-when false) ∷ rest) n e =
+    let f = refusal-first rest n e in
     record { above = m given-when false ∷ f .above; below = f .below; split = ap (λ r. m given-when false ∷ r) (f .split); passed = (refl, f .passed) }
 
-pub first-stop : (rows : List Stop) (n : ℕ) → FirstApplies rows n → firstStop rows ≡ Option.some n
-unfolding firstStop
-first-stop rows n f = rw (f .split) (below-passed (f .above) (n given-when true ∷ f .below) (f .passed))
+pub first-refusal : (rows : List Refusal) (n : ℕ) → FirstApplies rows n → firstRefusal rows ≡ Option.some n
+unfolding firstRefusal
+first-refusal rows n f = rw (f .split) (below-passed (f .above) (n given-when true ∷ f .below) (f .passed))
 
 -- whether an answer is a refusal number
 abbrev pub isNumber : Answer → Bool
@@ -81,8 +81,8 @@ first-accepted g t key = go (seekWord g t key)
     go (found j w) h = set-accepted g t key (lowestSet g t key j) w h
     go (missed w) h = refl
 
-accepted-no-number : (g : Geometry) (t : Tables) (c : Call (List ℕ)) → Passed (ownStops g t c) → isNumber (accepted g t c .answer) ≡ false
-unfolding accepted ownStops
+accepted-no-number : (g : Geometry) (t : Tables) (c : Call (List ℕ)) → Passed (ownRefusals g t c) → isNumber (accepted g t c .answer) ≡ false
+unfolding accepted ownRefusals
 accepted-no-number g t clear p = refl
 accepted-no-number g t (write a q) p = refl
 accepted-no-number g t (erase a) p = refl
@@ -90,30 +90,30 @@ accepted-no-number g t (read a) p = refl
 accepted-no-number g t (firstMatch key) p = first-accepted g t key (p .1 .0)
 accepted-no-number g t (allMatch key m) p = refl
 
-pub given-exactly : (g : Geometry) (t : Tables) (c : Call (List ℕ)) (n : ℕ) → (step g t c .answer ≡ refused n) ↔ FirstApplies (stops g t c) n
-unfolding step outcome stops
-given-exactly g t c n = (λ e. stop-first (stops g t c) n (go (firstStop (stops g t c)) refl e), λ f. rw (first-stop (stops g t c) n f))
+pub given-exactly : (g : Geometry) (t : Tables) (c : Call (List ℕ)) (n : ℕ) → (step g t c .answer ≡ refused n) ↔ FirstApplies (refusals g t c) n
+unfolding step outcome refusals
+given-exactly g t c n = (λ e. refusal-first (refusals g t c) n (go (firstRefusal (refusals g t c)) refl e), λ f. rw (first-refusal (refusals g t c) n f))
   where
-    go : (r : Option ℕ) → firstStop (stops g t c) ≡ r → outcome g t c r .answer ≡ refused n → r ≡ Option.some n
-    go Option.none s e = absurd (false≢true (sym (accepted-no-number g t c (passes (stops g t c) s .1 .1)) ∙ ap isNumber e))
+    go : (r : Option ℕ) → firstRefusal (refusals g t c) ≡ r → outcome g t c r .answer ≡ refused n → r ≡ Option.some n
+    go Option.none s e = absurd (false≢true (sym (accepted-no-number g t c (passes (refusals g t c) s .1 .1)) ∙ ap isNumber e))
     go (Option.some m) s e = cc
 
 -- an answer that is no number: no row of the table applied
-pub not-stopped : (g : Geometry) (t : Tables) (c : Call (List ℕ)) (x : Answer) → isNumber x ≡ false → step g t c .answer ≡ x → Passed (stops g t c)
+pub not-refused : (g : Geometry) (t : Tables) (c : Call (List ℕ)) (x : Answer) → isNumber x ≡ false → step g t c .answer ≡ x → Passed (refusals g t c)
 unfolding step outcome
-not-stopped g t c x other e = passes (stops g t c) (go (firstStop (stops g t c)) refl e)
+not-refused g t c x other e = passes (refusals g t c) (go (firstRefusal (refusals g t c)) refl e)
   where
-    go : (r : Option ℕ) → firstStop (stops g t c) ≡ r → outcome g t c r .answer ≡ x → firstStop (stops g t c) ≡ Option.none
+    go : (r : Option ℕ) → firstRefusal (refusals g t c) ≡ r → outcome g t c r .answer ≡ x → firstRefusal (refusals g t c) ≡ Option.none
     go Option.none s h = s
     go (Option.some n) s h = absurd (false≢true (sym other ∙ ap isNumber (sym h)))
 
-pub passed-valid : (g : Geometry) (t : Tables) (c : Call (List ℕ)) → Passed (stops g t c) → valid g ≡ true
-unfolding stops
+pub passed-valid : (g : Geometry) (t : Tables) (c : Call (List ℕ)) → Passed (refusals g t c) → valid g ≡ true
+unfolding refusals
 passed-valid g t c p = not-false (valid g) (p .0)
 
 -- both tables have their lengths
-pub passed-lengths : (g : Geometry) (t : Tables) (c : Call (List ℕ)) → Passed (stops g t c) → (length (t .store) ≡ g .depth) × (length (t .indicators) ≡ indicatorWords g)
-unfolding stops badLengths
+pub passed-lengths : (g : Geometry) (t : Tables) (c : Call (List ℕ)) → Passed (refusals g t c) → (length (t .store) ≡ g .depth) × (length (t .indicators) ≡ indicatorWords g)
+unfolding refusals badLengths
 passed-lengths g t c p =
     let both = and-eq-true-iff _ _ .0 (not-false _ (first-half (badLengths g t) (badMatches g c) (p .1 .0))) in
     (eqb-true _ _ (both .0), eqb-true _ _ (both .1))
@@ -123,36 +123,36 @@ passed-lengths g t c p =
     first-half false b h = refl
 
 -- a first-match answers with no match word
-first-left : (g : Geometry) (t : Tables) (key : ℕ) (m : List ℕ) → left (firstAnswer g t key) m ≡ m
-unfolding firstAnswer answerIn left
-first-left g t key m = go (seekWord g t key)
+first-lends : (g : Geometry) (t : Tables) (key : ℕ) (m : List ℕ) → matchesAfter (firstAnswer g t key) m ≡ m
+unfolding firstAnswer answerIn matchesAfter
+first-lends g t key m = go (seekWord g t key)
   where
-    in-set : (s w : ℕ) (b : Bool) (r : Sought) → eqb (g .kind) segmented ≡ b → seekEntry g t key s ≡ r → left (answerIn g t key s w) m ≡ m
+    in-set : (s w : ℕ) (b : Bool) (r : Sought) → eqb (g .kind) segmented ≡ b → seekEntry g t key s ≡ r → matchesAfter (answerIn g t key s w) m ≡ m
     in-set s w true (found o c) p q = rw (p, answerIn, q)
     in-set s w true (missed c) p q = rw (p, answerIn, q)
     in-set s w false r p q = rw (p, answerIn)
 
-    go : (r : Sought) → left (elim r as (λ x. Answer) [ found j w ↦ answerIn g t key (lowestSet g t key j) w | missed w ↦ none w 0 ]) m ≡ m
+    go : (r : Sought) → matchesAfter (elim r as (λ x. Answer) [ found j w ↦ answerIn g t key (lowestSet g t key j) w | missed w ↦ none w 0 ]) m ≡ m
     go (found j w) = in-set (lowestSet g t key j) w (eqb (g .kind) segmented) (seekEntry g t key (lowestSet g t key j)) refl refl
     go (missed w) = refl
 
 -- the match word after any call is the one in its answer, or as it was lent
-pub match-word-left : (g : Geometry) (t : Tables) (c : Call (List ℕ)) → step g t c .matches ≡ left (step g t c .answer) (lent c)
-unfolding step outcome accepted left lent
-match-word-left g t c = go c (firstStop (stops g t c))
+pub matches-after : (g : Geometry) (t : Tables) (c : Call (List ℕ)) → step g t c .matches ≡ matchesAfter (step g t c .answer) (lent c)
+unfolding step outcome accepted matchesAfter lent
+matches-after g t c = go c (firstRefusal (refusals g t c))
   where
-    go : (c : Call (List ℕ)) (r : Option ℕ) → outcome g t c r .matches ≡ left (outcome g t c r .answer) (lent c)
+    go : (c : Call (List ℕ)) (r : Option ℕ) → outcome g t c r .matches ≡ matchesAfter (outcome g t c r .answer) (lent c)
     go c (Option.some n) = refl
     go clear Option.none = refl
     go (write a p) Option.none = refl
     go (erase a) Option.none = refl
     go (read a) Option.none = refl
-    go (firstMatch key) Option.none = sym (first-left g t key [])
+    go (firstMatch key) Option.none = sym (first-lends g t key [])
     go (allMatch key m) Option.none = refl
 
 pub refused-keeps : (g : Geometry) (t : Tables) (c : Call (List ℕ)) (n : ℕ) → step g t c .answer ≡ refused n → (step g t c .tables ≡ t) × (step g t c .matches ≡ lent c)
-unfolding step outcome left
-refused-keeps g t c n e = let stopped = first-stop (stops g t c) n (given-exactly g t c n .0 e) in (rw stopped, rw stopped)
+unfolding step outcome matchesAfter
+refused-keeps g t c n e = let stopped = first-refusal (refusals g t c) n (given-exactly g t c n .0 e) in (rw stopped, rw stopped)
 
 -- "Read and the matches write no table."
 pub reading-keeps : (g : Geometry) (t : Tables) (a key : ℕ) (m : List ℕ)
@@ -161,7 +161,7 @@ unfolding step outcome accepted
 reading-keeps g t a key m = (keeps (read a) refl, keeps (firstMatch key) refl, keeps (allMatch key m) refl)
   where
     keeps : (c : Call (List ℕ)) → accepted g t c .tables ≡ t → step g t c .tables ≡ t
-    keeps c e = go (firstStop (stops g t c))
+    keeps c e = go (firstRefusal (refusals g t c))
       where
         go : (r : Option ℕ) → outcome g t c r .tables ≡ t
         go Option.none = e

@@ -33,6 +33,10 @@ module _ (g : Geometry) (f : Facts g) where
   pub offset-of : (s o : ℕ) → o < g .«set_width» → offsetOf g (addressOf g s o) ≡ o
   offset-of s o h = rw mul-comm (digits-mod s h)
 
+  -- where a set has one address, the set is the address
+  pub alone-address : (s o : ℕ) → g .«set_width» ≡ 1 → o < g .«set_width» → addressOf g s o ≡ s
+  alone-address s o one h = let first : o ≡ 0 = omega arith in rw (one, first) (omega arith)
+
   -- an address below that of s and o lies in an earlier set, or in s at an earlier offset
   pub below-address : (a s o : ℕ) → o < g .«set_width» → a < addressOf g s o → (setOf g a < s) ⊎ ((setOf g a ≡ s) × (offsetOf g a < o))
   below-address a s o ho h = go (eq-or-lt-of-le (le-of-suc-le-suc (div-lt-iff-lt-mul (f .set-pos) .1 (omega arith))))

@@ -1,7 +1,6 @@
 -- One call on the tables of an array agrees with the same call on the array: answer, tables and refusal number.
 use Prim.Native.Nat.{ℕ, _+_, _*_, _<_}
 use mathlib.Core.Path.{_≡_, refl, sym, ap, ap₂, _∙_}
-use mathlib.Core.Logic.{_⊎_, inl, inr}
 use mathlib.Core.Bool.{Bool, true, false, not, _||_, or-true, false≢true}
 use mathlib.Core.List.{List, [], _∷_, _++_}
 use mathlib.Core.Option as Option
@@ -12,7 +11,7 @@ use lib.Dec.{eqb, ltb}
 use lib.ListN.{length, set, length-set}
 use lib.Seq.{getD-set-same, getD-set-other}
 use borrow.Author.Tests.{lt-ltb, eqb-true, eqb-false}
-use Rattle.words.specs.Rules.{count, First, Nowhere}
+use Rattle.words.specs.Rules.{count, First}
 use Rattle.words.specs.Bits.{totalOnes}
 use Rattle.words.proofs.Rules.{count-ext, tabulate-ext, first-unique}
 use Rattle.words.proofs.Bits.{word-ext}
@@ -23,17 +22,19 @@ use Rattle.geometry.proofs.Facts.{Facts, facts}
 use Rattle.reference.specs.Entry.{Entry, empty, pattern, emptyWord, wordOf, holds}
 use Rattle.reference.specs.Calls.{Call, clear, write, erase, read, firstMatch, allMatch, shape, held, matched}
 use Rattle.reference.specs.Refusals.{Refusal, _given-when_, firstRefusal, Passed, badAddress, badPattern}
-use Rattle.reference.specs.Array.{Array, entryAt, lowest, counted, matchesOf, hits, arrayRefusals, ArrayOutcome, arrayAccepted, arrayOutcome, arrayStep, Sound}
+use Rattle.reference.specs.Array as Array
+use Rattle.reference.specs.Array.{Array, entryAt, counted, matchesOf, hits, arrayRefusals, ArrayOutcome, arrayAccepted, arrayOutcome, arrayStep, Sound}
 use Rattle.reference.specs.Tables.{storeWord}
 use Rattle.reference.specs.Image.{tablesOf}
-use Rattle.reference.specs.Search.{firstAnswer, takenWords}
-use Rattle.reference.specs.Statements.{Mirrors, FirstIs}
+use Rattle.reference.specs.Search.{firstFound, answerOf, taken, takenWords}
+use Rattle.reference.specs.Statements.{Mirrors, stores, FirstIs, lowest, absent}
 use Rattle.reference.specs.Steps.{badMatches, badEntry, ownRefusals, refusals, Outcome, accepted, outcome, step}
 use Rattle.reference.proofs.Limits.{address-passes, pattern-passes}
 use Rattle.reference.proofs.Covering.{holds-word}
-use Rattle.reference.proofs.Mirrored.{lengths-pass, first-is, first-not-false, none-false, all-are, all-counted}
+use Rattle.reference.proofs.Mirrored.{first-is, first-not-false, none-false, taken-is}
+use Rattle.reference.proofs.Searched.{lengths-pass, first-any, taken-counted}
 use Rattle.reference.proofs.Image.{store-word, store-entry, image-mirrors, replaced-image}
-use Rattle.reference.proofs.Lowest.{holding, lowest-is, hits-are}
+use Rattle.reference.proofs.Lowest.{holding, LowestIs, at-first, at-none, lowest-is, hits-are}
 use Rattle.reference.proofs.Refused.{passes}
 use Rattle.reference.proofs.Emptied.{emptied-sound, cleared-tables}
 
@@ -83,7 +84,7 @@ module _ (g : Geometry) (ok : valid g ≡ true) (es : Array) (sound : Sound g es
 
   pub same-refusals : (c : Call (List ℕ)) → firstRefusal (refusals g (tablesOf g es) c) ≡ firstRefusal (arrayRefusals g (shape c))
   unfolding refusals firstRefusal ownRefusals arrayRefusals shape badMatches
-  same-refusals c = rw (ok, lengths-pass g (tablesOf g es) mirrors) (go c)
+  same-refusals c = rw (ok, lengths-pass g (tablesOf g es) (mirrors .entries) (mirrors .words)) (go c)
     where
       go : (c : Call (List ℕ)) → firstRefusal (2 given-when badMatches g c ∷ ownRefusals g (tablesOf g es) c) ≡ firstRefusal (arrayRefusals g (shape c))
       go clear = refl
@@ -95,36 +96,36 @@ module _ (g : Geometry) (ok : valid g ≡ true) (es : Array) (sound : Sound g es
 
   -- ---- the searches agree
 
-  first-agrees : (key : ℕ) → key < patterns g → firstAnswer g (tablesOf g es) key ≡ counted g (lowest key 0 es)
+  first-agrees : (key : ℕ) → key < patterns g → answerOf (firstFound g (tablesOf g es) key) ≡ counted g (Array.lowest key 0 es)
   unfolding counted
-  first-agrees key small = go (first-is g f (tablesOf g es) mirrors key small) (lowest-is key 0 es)
+  first-agrees key small = go (first-is g f (tablesOf g es) mirrors key small _ (first-any g f (tablesOf g es) key)) (lowest-is key 0 es)
     where
-      there : (i : ℕ) → First (length es) (holding es key) i → First (g .depth) (λ a. eqb (storeWord (tablesOf g es) a) key) i
+      there : (i : ℕ) → First (length es) (holding es key) i → First (g .depth) (stores (tablesOf g es) key) i
       there i h = record {
         within = omega (arith, h .within, sound .long);
         here = held-is key small i ∙ h .here;
         none-before = λ j l. held-is key small j ∙ h .none-before j l;
       }
 
-      go : FirstIs g (tablesOf g es) key (firstAnswer g (tablesOf g es) key)
-          → ((i : ℕ) × (lowest key 0 es ≡ Option.some (0 + i)) × First (length es) (holding es key) i) ⊎ ((lowest key 0 es ≡ Option.none) × Nowhere (length es) (holding es key))
-          → firstAnswer g (tablesOf g es) key ≡ counted g (lowest key 0 es)
-      go (inl (a, first, answer)) (inl (i, low, lowest-first)) = rw (low, zero-add i, ← first-unique (g .depth) _ a i first (there i lowest-first)) answer
-      go (inl (a, first, answer)) (inr (low, nowhere)) =
+      go : FirstIs g (tablesOf g es) key (answerOf (firstFound g (tablesOf g es) key)) → LowestIs key 0 es (Array.lowest key 0 es)
+          → answerOf (firstFound g (tablesOf g es) key) ≡ counted g (Array.lowest key 0 es)
+      go (lowest a first answer) (at-first i low low-first) = rw (low, zero-add i, ← first-unique (g .depth) _ a i first (there i low-first)) answer
+      go (lowest a first answer) (at-none low nowhere) =
           absurd (false≢true (sym (nowhere a (omega (arith, first .within, sound .long))) ∙ sym (held-is key small a) ∙ first .here))
-      go (inr (nowhere, answer)) (inl (i, low, first)) = absurd (false≢true (sym (nowhere i (there i first .within)) ∙ there i first .here))
-      go (inr (nowhere, answer)) (inr (low, _)) = rw low answer
+      go (absent nowhere answer) (at-first i low first) = absurd (false≢true (sym (nowhere i (there i first .within)) ∙ there i first .here))
+      go (absent nowhere answer) (at-none low _) = rw low answer
+
+  taken-holds : (key : ℕ) → key < patterns g → (a : ℕ) → taken g (tablesOf g es) key a ≡ holding es key a
+  taken-holds key small a = taken-is g f (tablesOf g es) mirrors key small a ∙ held-is key small a
 
   matches-agree : (key : ℕ) → key < patterns g → takenWords g (tablesOf g es) key ≡ matchesOf g es key
-  unfolding matchesOf
-  matches-agree key small =
-      all-are g f (tablesOf g es) mirrors key small
-      ∙ tabulate-ext (matchWords g) _ _ (λ j l. word-ext 64 _ _ (λ b m. held-is key small (64 * j + b)))
+  unfolding takenWords matchesOf
+  matches-agree key small = tabulate-ext (matchWords g) _ _ (λ j l. word-ext 64 _ _ (λ b m. taken-holds key small (64 * j + b)))
 
   hits-agree : (key : ℕ) → key < patterns g → totalOnes (takenWords g (tablesOf g es) key) ≡ hits key es
   hits-agree key small =
-      all-counted g f (tablesOf g es) mirrors key small
-      ∙ count-ext (g .depth) _ (holding es key) (λ a l. held-is key small a)
+      taken-counted g f (tablesOf g es) key
+      ∙ count-ext (g .depth) _ (holding es key) (λ a l. taken-holds key small a)
       ∙ ap (λ n. count n (holding es key)) (sym (sound .long)) ∙ sym (hits-are key es)
 
   -- ---- every call agrees

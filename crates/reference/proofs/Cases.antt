@@ -12,11 +12,11 @@ use Rattle.reference.specs.Entry.{wordOf, entryOf}
 use Rattle.reference.specs.Refusals.{firstRefusal, badAddress, badPattern}
 use Rattle.reference.specs.Image.{entryRows, covers}
 use Rattle.reference.specs.Update.{change, othersCover, released, replaced}
-use Rattle.reference.specs.Search.{setMask, joined, indicated, seekWord, seekEntry, lowestSet, falseSet, firstIsFalse, anyIsFalse, answerIn, firstAnswer, taken, takenWords}
+use Rattle.reference.specs.Search.{setMask, joined, indicated, seekWord, seekEntry, lowestSet, isFalse, inSet, firstFound, anyIsFalse, answerOf, taken, takenWords}
 use Rattle.reference.specs.Steps.{badLengths, badMatches, badEntry, ownRefusals, refusals, clearTables, accepted, outcome, step, Outcome}
 use Rattle.reference.specs.History.{run}
 use Rattle.reference.specs.Cases.{Case, cases}
 
 pub cases-hold : map (λ (r : Case). map (λ (o : Outcome). o .answer) (run (r .geometry) (r .tables) (r .calls))) cases ≡ map (λ (r : Case). r .answers) cases
-unfolding trailingZeros any count member keep tabulate bit setBit clearBit word totalOnes seek valid patterns sets rowWords matchWords stages stageWidth stage rowOf rowsOf rows indicatorWords wordOf entryOf firstRefusal badAddress badPattern entryRows covers change othersCover released replaced setMask joined indicated seekWord seekEntry lowestSet falseSet firstIsFalse anyIsFalse answerIn firstAnswer taken takenWords badLengths badMatches badEntry ownRefusals refusals clearTables accepted outcome step run cases
+unfolding trailingZeros any count member keep tabulate bit setBit clearBit word totalOnes seek valid patterns sets rowWords matchWords stages stageWidth stage rowOf rowsOf rows indicatorWords wordOf entryOf firstRefusal badAddress badPattern entryRows covers change othersCover released replaced setMask joined indicated seekWord seekEntry lowestSet isFalse inSet firstFound anyIsFalse answerOf taken takenWords badLengths badMatches badEntry ownRefusals refusals clearTables accepted outcome step run cases
 cases-hold = refl

@@ -24,10 +24,6 @@ module _ (g : Geometry) (f : Facts g) (key : ℕ) (small : key < patterns g) whe
       go true e = refl
       go false e = sym (ne-eqb w key (λ q. omega (arith, ltb-false w (patterns g) e)))
 
-  row-member : (k : ℕ) → k < stages g → member (rowOf g key k) (rowsOf g key) ≡ true
-  unfolding rowOf
-  row-member k h = row-among g f k (stage g k key) key h (stage-lt g f k key) ∙ eq-eqb (stage g k key) (stage g k key) refl
-
   -- a pattern among whose rows are all of the key's is the key
   rows-same : (p : ℕ) → p < patterns g → ((k : ℕ) → k < stages g → member (rowOf g key k) (rowsOf g p) ≡ true) → p ≡ key
   unfolding rowOf
@@ -35,14 +31,17 @@ module _ (g : Geometry) (f : Facts g) (key : ℕ) (small : key < patterns g) whe
       stages-determine g f p key h small
       (λ k l. sym (eqb-true (stage g k key) (stage g k p) (sym (row-among g f k (stage g k key) p l (stage-lt g f k key)) ∙ shared k l)))
 
-  pub covers-key : (w : ℕ) → ((r : ℕ) → member r (rowsOf g key) ≡ true → covers g (entryOf g w) r ≡ true) → eqb w key ≡ true
+  -- an entry that covers every row of the key is the key, and the key's entry covers them
+  pub covers-key : (w : ℕ) → ((k : ℕ) → k < stages g → covers g (entryOf g w) (rowOf g key k) ≡ true) → eqb w key ≡ true
   unfolding covers entryOf entryRows member
-  covers-key w all = go (ltb w (patterns g)) refl (λ k h. all (rowOf g key k) (row-member k h))
+  covers-key w all = go (ltb w (patterns g)) refl all
     where
       go : (b : Bool) → ltb w (patterns g) ≡ b → ((k : ℕ) → k < stages g → member (rowOf g key k) (entryRows g (cond b (pattern w) empty)) ≡ true) → eqb w key ≡ true
       go true e rows = eq-eqb w key (rows-same w (ltb-true w (patterns g) e) rows)
       go false e rows = absurd (false≢true (rows 0 (stages-pos g f)))
 
-  pub key-covers : (w r : ℕ) → eqb w key ≡ true → member r (rowsOf g key) ≡ true → covers g (entryOf g w) r ≡ true
-  unfolding covers entryOf entryRows
-  key-covers w r e h = rw (eqb-true w key e, lt-ltb key (patterns g) small) h
+  pub key-covers : (w k : ℕ) → eqb w key ≡ true → k < stages g → covers g (entryOf g w) (rowOf g key k) ≡ true
+  unfolding covers entryOf entryRows rowOf
+  key-covers w k e h =
+      rw (eqb-true w key e, lt-ltb key (patterns g) small)
+      (row-among g f k (stage g k key) key h (stage-lt g f k key) ∙ eq-eqb (stage g k key) (stage g k key) refl)

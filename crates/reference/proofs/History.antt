@@ -29,31 +29,29 @@ use Rattle.reference.proofs.Agreement.{same-refusals, agrees}
 
 -- ---- from the tables of an array on
 
-module _ (g : Geometry) (ok : valid g ≡ true) where
-  answers-follow : (es : Array) → Sound g es → (cs : History) → map (λ (o : Outcome). o .answer) (run g (tablesOf g es) cs) ≡ arrayAnswers g es (map shape cs)
-  unfolding run arrayAnswers
-  answers-follow es sound [] = refl
-  answers-follow es sound (c ∷ cs) =
-      let a = agrees g ok es sound c in
-      ap₂ (λ (x : Answer) (xs : List Answer). x ∷ xs) (a .answer) (rw (a .tables) (answers-follow (arrayStep g es (shape c) .array) (a .sound) cs))
-
-  tables-follow : (es : Array) → Sound g es → (cs : History) → after g (tablesOf g es) cs ≡ tablesOf g (arrayAfter g es (map shape cs))
-  unfolding after arrayAfter
-  tables-follow es sound [] = refl
-  tables-follow es sound (c ∷ cs) =
-      let a = agrees g ok es sound c in
-      rw (a .tables) (tables-follow (arrayStep g es (shape c) .array) (a .sound) cs)
-
-  sound-follow : (es : Array) → Sound g es → (cs : List (Call (List ℕ))) → Sound g (arrayAfter g es (map shape cs))
-  unfolding arrayAfter
-  sound-follow es sound [] = sound
-  sound-follow es sound (c ∷ cs) = sound-follow (arrayStep g es (shape c) .array) (agrees g ok es sound c .sound) cs
-
 matches-follow : (g : Geometry) (t : Tables) (cs : History)
     → map (λ (o : Outcome). o .matches) (run g t cs) ≡ zipWith matchesAfter (map (λ (o : Outcome). o .answer) (run g t cs)) (map lent cs)
 unfolding run zipWith
 matches-follow g t [] = refl
 matches-follow g t (c ∷ cs) = ap₂ (λ (x : List ℕ) (xs : List (List ℕ)). x ∷ xs) (matches-after g t c) (matches-follow g (step g t c .tables) cs)
+
+module _ (g : Geometry) (ok : valid g ≡ true) where
+  pub follows : (es : Array) → Sound g es → (cs : History) → Follows g es (tablesOf g es) cs
+  unfolding run after arrayAnswers arrayAfter
+  follows es sound [] = record { answers = refl; matches = matches-follow g (tablesOf g es) []; tables = refl }
+  follows es sound (c ∷ cs) =
+      let a = agrees g ok es sound c in
+      let rest = follows (arrayStep g es (shape c) .array) (a .sound) cs in
+      record {
+        answers = ap₂ (λ (x : Answer) (xs : List Answer). x ∷ xs) (a .answer) (rw (a .tables) (rest .answers));
+        matches = matches-follow g (tablesOf g es) (c ∷ cs);
+        tables = rw (a .tables) (rest .tables);
+      }
+
+  sound-after : (es : Array) → Sound g es → (cs : List (Call (List ℕ))) → Sound g (arrayAfter g es (map shape cs))
+  unfolding arrayAfter
+  sound-after es sound [] = sound
+  sound-after es sound (c ∷ cs) = sound-after (arrayStep g es (shape c) .array) (agrees g ok es sound c .sound) cs
 
 -- ---- from an accepted clear on, whatever the tables held
 
@@ -67,19 +65,19 @@ clear-empties : (g : Geometry) (t : Tables) → step g t clear .answer ≡ clear
 unfolding step outcome accepted
 clear-empties g t e = rw (passed-none (refusals g t clear) (clear-passes g t e)) (cleared-tables g)
 
-pub history : (g : Geometry) (t : Tables) (cs : History) → step g t clear .answer ≡ cleared → Follows g t (clear ∷ cs)
+pub history : (g : Geometry) (t : Tables) (cs : History) → step g t clear .answer ≡ cleared → Follows g (emptied g) t (clear ∷ cs)
 unfolding run after arrayAnswers arrayAfter arrayStep arrayOutcome arrayRefusals firstRefusal arrayAccepted shape
 history g t cs e =
-    let ok = clear-valid g t e in
+    let rest = follows g (clear-valid g t e) (emptied g) (emptied-sound g) cs in
     record {
-      answers = ap₂ (λ (x : Answer) (xs : List Answer). x ∷ xs) e (rw (clear-empties g t e) (answers-follow g ok (emptied g) (emptied-sound g) cs));
+      answers = ap₂ (λ (x : Answer) (xs : List Answer). x ∷ xs) e (rw (clear-empties g t e) (rest .answers));
       matches = matches-follow g t (clear ∷ cs);
-      tables = rw (clear-empties g t e) (tables-follow g ok (emptied g) (emptied-sound g) cs);
+      tables = rw (clear-empties g t e) (rest .tables);
     }
 
 -- every history leaves D entries, each empty or a pattern
 pub array-sound : (g : Geometry) (t : Tables) (cs : History) → step g t clear .answer ≡ cleared → Sound g (arrayOf g (clear ∷ cs))
-array-sound g t cs e = sound-follow g (clear-valid g t e) (emptied g) (emptied-sound g) (clear ∷ cs)
+array-sound g t cs e = sound-after g (clear-valid g t e) (emptied g) (emptied-sound g) (clear ∷ cs)
 
 -- arrays with equal tables are equal: the store tells every entry
 array-told : (g : Geometry) → valid g ≡ true → (es fs : Array) → Sound g es → Sound g fs → tablesOf g es ≡ tablesOf g fs → es ≡ fs

@@ -125,12 +125,12 @@ module _ (g : Geometry) (f : Facts g) (es : Array) (sound : Sound g es) where
     -- the bit of each row, word and place: in a's set by what each entry covers, elsewhere as it was
     same-bit : (r j b : ℕ) → r < rows g → j < rowWords g
         → cond (belongs (setOf g a) j b)
-        (covers g e r || (not (covers g (entryAt es a) r && not (others r)) && cell g (image g es) r j b))
+        (cond (covers g e r) true (cond (covers g (entryAt es a) r && not (others r)) false (cell g (image g es) r j b)))
         (cell g (image g es) r j b)
         ≡ (ltb b 64 && covered g (entryAt next) r (64 * j + b))
     same-bit r j b hr hj = rw (image-cell r j b hr hj) (go (belongs (setOf g a) j b) refl)
       where
-        formula : (P Q O : Bool) → (P || (not (Q && not O) && (Q || O))) ≡ (P || O)
+        formula : (P Q O : Bool) → cond P true (cond (Q && not O) false (Q || O)) ≡ (P || O)
         formula true Q O = refl
         formula false true true = refl
         formula false true false = refl
@@ -145,7 +145,7 @@ module _ (g : Geometry) (f : Facts g) (es : Array) (sound : Sound g es) where
 
         go : (c : Bool) → belongs (setOf g a) j b ≡ c
             → cond c
-            (covers g e r || (not (covers g (entryAt es a) r && not (others r)) && (ltb b 64 && covered g (entryAt es) r (64 * j + b))))
+            (cond (covers g e r) true (cond (covers g (entryAt es a) r && not (others r)) false (ltb b 64 && covered g (entryAt es) r (64 * j + b))))
             (ltb b 64 && covered g (entryAt es) r (64 * j + b))
             ≡ (ltb b 64 && covered g (entryAt next) r (64 * j + b))
         go true h =

@@ -2,6 +2,7 @@ pub mod Limits
 pub mod Cells
 pub mod Replaced
 pub mod Covering
+pub mod Searched
 pub mod Indicated
 pub mod Mirrored
 pub mod Image

@@ -8,17 +8,15 @@ use mathlib.Core.List.{List, [], _∷_, _++_, append-nil}
 use mathlib.Core.Option as Option
 use mathlib.Core.Option.{Option}
 use native.Mathlib.Omega.{arith}
-use lib.Dec.{eqb}
 use lib.ListN.{length}
 use borrow.Author.Tests.{not-false, eqb-true}
-use Rattle.words.specs.Seek.{Sought, found, missed}
 use Rattle.geometry.specs.declared.Geometry.{Geometry}
-use Rattle.geometry.specs.Valid.{valid, segmented}
+use Rattle.geometry.specs.Valid.{valid}
 use Rattle.geometry.specs.Stages.{indicatorWords}
 use Rattle.reference.specs.Calls.{Call, clear, write, erase, read, firstMatch, allMatch, lent, matchesAfter, Answer, refused, cleared, held, at, none, matched}
 use Rattle.reference.specs.Refusals.{Refusal, _given-when_, firstRefusal, Passed, FirstApplies}
 use Rattle.reference.specs.Tables.{Tables}
-use Rattle.reference.specs.Search.{seekWord, seekEntry, lowestSet, falseSet, firstIsFalse, answerIn, firstAnswer}
+use Rattle.reference.specs.Search.{Found, hit, nothing, falseSet, isFalse, firstFound, answerOf}
 use Rattle.reference.specs.Steps.{badLengths, badMatches, ownRefusals, refusals, accepted, outcome, step}
 
 -- the table is passed exactly when it is passed row by row
@@ -62,24 +60,12 @@ isNumber (at a w c) = false
 isNumber (none w c) = false
 isNumber (matched ws n) = false
 
--- an accepted first-match gives no number: only a false set would
-set-accepted : (g : Geometry) (t : Tables) (key s w : ℕ) → falseSet g t key s ≡ false → isNumber (answerIn g t key s w) ≡ false
-unfolding falseSet answerIn
-set-accepted g t key s w h = go (eqb (g .kind) segmented) (seekEntry g t key s) refl refl
-  where
-    go : (b : Bool) (r : Sought) → eqb (g .kind) segmented ≡ b → seekEntry g t key s ≡ r → isNumber (answerIn g t key s w) ≡ false
-    go true (found o c) p q = rw (p, answerIn, q)
-    go true (missed c) p q = absurd (true≢false (rw (p, falseSet, q) at h))
-    go false r p q = rw (p, answerIn)
-
-first-accepted : (g : Geometry) (t : Tables) (key : ℕ) → firstIsFalse g t key ≡ false → isNumber (firstAnswer g t key) ≡ false
-unfolding firstIsFalse firstAnswer
-first-accepted g t key = go (seekWord g t key)
-  where
-    go : (r : Sought) → elim r as (λ x. Bool) [ found j w ↦ falseSet g t key (lowestSet g t key j) | missed w ↦ false ] ≡ false
-        → isNumber (elim r as (λ x. Answer) [ found j w ↦ answerIn g t key (lowestSet g t key j) w | missed w ↦ none w 0 ]) ≡ false
-    go (found j w) h = set-accepted g t key (lowestSet g t key j) w h
-    go (missed w) h = refl
+-- a first-match that finds no false set gives no number
+found-no-number : (x : Found) → isFalse x ≡ false → isNumber (answerOf x) ≡ false
+unfolding isFalse answerOf
+found-no-number (hit a w c) h = refl
+found-no-number (nothing w) h = refl
+found-no-number falseSet h = h
 
 accepted-no-number : (g : Geometry) (t : Tables) (c : Call (List ℕ)) → Passed (ownRefusals g t c) → isNumber (accepted g t c .answer) ≡ false
 unfolding accepted ownRefusals
@@ -87,7 +73,7 @@ accepted-no-number g t clear p = refl
 accepted-no-number g t (write a q) p = refl
 accepted-no-number g t (erase a) p = refl
 accepted-no-number g t (read a) p = refl
-accepted-no-number g t (firstMatch key) p = first-accepted g t key (p .1 .0)
+accepted-no-number g t (firstMatch key) p = found-no-number (firstFound g t key) (p .1 .0)
 accepted-no-number g t (allMatch key m) p = refl
 
 pub given-exactly : (g : Geometry) (t : Tables) (c : Call (List ℕ)) (n : ℕ) → (step g t c .answer ≡ refused n) ↔ FirstApplies (refusals g t c) n
@@ -123,18 +109,11 @@ passed-lengths g t c p =
     first-half false b h = refl
 
 -- a first-match answers with no match word
-first-lends : (g : Geometry) (t : Tables) (key : ℕ) (m : List ℕ) → matchesAfter (firstAnswer g t key) m ≡ m
-unfolding firstAnswer answerIn matchesAfter
-first-lends g t key m = go (seekWord g t key)
-  where
-    in-set : (s w : ℕ) (b : Bool) (r : Sought) → eqb (g .kind) segmented ≡ b → seekEntry g t key s ≡ r → matchesAfter (answerIn g t key s w) m ≡ m
-    in-set s w true (found o c) p q = rw (p, answerIn, q)
-    in-set s w true (missed c) p q = rw (p, answerIn, q)
-    in-set s w false r p q = rw (p, answerIn)
-
-    go : (r : Sought) → matchesAfter (elim r as (λ x. Answer) [ found j w ↦ answerIn g t key (lowestSet g t key j) w | missed w ↦ none w 0 ]) m ≡ m
-    go (found j w) = in-set (lowestSet g t key j) w (eqb (g .kind) segmented) (seekEntry g t key (lowestSet g t key j)) refl refl
-    go (missed w) = refl
+found-no-matches : (x : Found) (m : List ℕ) → matchesAfter (answerOf x) m ≡ m
+unfolding answerOf matchesAfter
+found-no-matches (hit a w c) m = refl
+found-no-matches (nothing w) m = refl
+found-no-matches falseSet m = refl
 
 -- the match word after any call is the one in its answer, or as it was lent
 pub matches-after : (g : Geometry) (t : Tables) (c : Call (List ℕ)) → step g t c .matches ≡ matchesAfter (step g t c .answer) (lent c)
@@ -147,8 +126,13 @@ matches-after g t c = go c (firstRefusal (refusals g t c))
     go (write a p) Option.none = refl
     go (erase a) Option.none = refl
     go (read a) Option.none = refl
-    go (firstMatch key) Option.none = sym (first-lends g t key [])
+    go (firstMatch key) Option.none = sym (found-no-matches (firstFound g t key) [])
     go (allMatch key m) Option.none = refl
+
+-- "a refused all-match leaves that match word as lent"
+pub refused-lends : (g : Geometry) (t : Tables) (key : ℕ) (m : List ℕ) (n : ℕ) → step g t (allMatch key m) .answer ≡ refused n → step g t (allMatch key m) .matches ≡ m
+unfolding lent matchesAfter
+refused-lends g t key m n e = matches-after g t (allMatch key m) ∙ rw e
 
 pub refused-keeps : (g : Geometry) (t : Tables) (c : Call (List ℕ)) (n : ℕ) → step g t c .answer ≡ refused n → (step g t c .tables ≡ t) × (step g t c .matches ≡ lent c)
 unfolding step outcome matchesAfter

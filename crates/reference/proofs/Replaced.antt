@@ -63,7 +63,7 @@ replaced-bits g f t a e ha stored indicated = record {
     given-up-lt : (r : ℕ) → member r (released g t a (entryRows g e)) ≡ true → r < rows g
     given-up-lt r h = covers-lt g f (storeEntry g t a) r (and-eq-true-iff _ _ .0 (sym (given-up r) ∙ h) .0)
 
-    formula : (P Q O h c : Bool) → not ((Q && (not P && not O)) && h) && ((P && h) || c) ≡ cond h (P || (not (Q && not O) && c)) c
+    formula : (P Q O h c : Bool) → not ((Q && (not P && not O)) && h) && ((P && h) || c) ≡ cond h (cond P true (cond (Q && not O) false c)) c
     formula true true O true c = refl
     formula true true O false c = refl
     formula true false O true c = refl

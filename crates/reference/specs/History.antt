@@ -28,6 +28,6 @@ unfoldable pub arrayAfter : Geometry → Array → List (Call ℕ) → Array
 arrayAfter g es [] = es
 arrayAfter g es (c ∷ cs) = arrayAfter g (arrayStep g es c .array) cs
 
--- The array of a history: it begins empty, and is fed the shape of each call.
+-- The array of a history that begins with an accepted clear: it begins empty.
 abbrev pub arrayOf : Geometry → History → Array
 arrayOf g cs = arrayAfter g (emptied g) (map shape cs)

@@ -39,34 +39,38 @@ seekEntry g t key s = seek (λ o. eqb (storeWord t (addressOf g s o)) key) (g .�
 unfoldable pub lowestSet : Geometry → Tables → (key j : ℕ) → ℕ
 lowestSet g t key j = 64 * j + trailingZeros 64 (joined g t key j)
 
-isMissed : Sought → Bool
-isMissed (found i n) = false
-isMissed (missed n) = true
+-- What a first-match finds: an address; no indicated set; or a false set, which is indicated and has no entry equal to the
+-- key.
+pub data Found : Type 0 where
+  hit : (address words-read entries-compared : ℕ) → Found
+  nothing : (words-read : ℕ) → Found
+  falseSet : Found
 
--- In kind 2 a set that has no entry equal to the key is false, should it be indicated.
-unfoldable pub falseSet : Geometry → Tables → (key set : ℕ) → Bool
-unfolding isMissed
-falseSet g t key s = eqb (g .kind) segmented && isMissed (seekEntry g t key s)
+unfoldable pub isFalse : Found → Bool
+isFalse (hit a w c) = false
+isFalse (nothing w) = false
+isFalse falseSet = true
 
--- "an indicated set (first-match: the first) has no entry equal to the key"
-unfoldable pub firstIsFalse : Geometry → Tables → (key : ℕ) → Bool
-firstIsFalse g t key = elim (seekWord g t key) [ found j w ↦ falseSet g t key (lowestSet g t key j) | missed w ↦ false ]
-
-unfoldable pub anyIsFalse : Geometry → Tables → (key : ℕ) → Bool
-anyIsFalse g t key = any (sets g) (λ s. indicated g t key s && falseSet g t key s)
-
--- "In kind 2 the entries of that set are compared; in the others the set is the address." A set without an equal entry
--- was refused before.
-unfoldable pub answerIn : Geometry → Tables → (key set words-read : ℕ) → Answer
-answerIn g t key s w =
+-- "In kind 2 the entries of that set are compared; in the others the set is the address."
+unfoldable pub inSet : Geometry → Tables → (key set words-read : ℕ) → Found
+inSet g t key s w =
     elim (eqb (g .kind) segmented) [
-      | true ↦ elim (seekEntry g t key s) [ found o c ↦ at (addressOf g s o) w c | missed c ↦ refused 6 ]
-      | false ↦ at s w 0
+      | true ↦ elim (seekEntry g t key s) [ found o c ↦ hit (addressOf g s o) w c | missed c ↦ falseSet ]
+      | false ↦ hit s w 0
     ]
 
-unfoldable pub firstAnswer : Geometry → Tables → (key : ℕ) → Answer
-firstAnswer g t key =
-    elim (seekWord g t key) [ found j w ↦ answerIn g t key (lowestSet g t key j) w | missed w ↦ none w 0 ]
+unfoldable pub firstFound : Geometry → Tables → (key : ℕ) → Found
+firstFound g t key = elim (seekWord g t key) [ found j w ↦ inSet g t key (lowestSet g t key j) w | missed w ↦ nothing w ]
+
+-- Whether any indicated set is false.
+unfoldable pub anyIsFalse : Geometry → Tables → (key : ℕ) → Bool
+anyIsFalse g t key = any (sets g) (λ s. indicated g t key s && isFalse (inSet g t key s 0))
+
+-- A false set was refused before it would be answered.
+unfoldable pub answerOf : Found → Answer
+answerOf (hit a w c) = at a w c
+answerOf (nothing w) = none w 0
+answerOf falseSet = refused 6
 
 -- "All-match takes every indicated set, and in kind 2 every equal entry in it."
 unfoldable pub taken : Geometry → Tables → (key a : ℕ) → Bool

@@ -1,8 +1,7 @@
 -- What is shown of the steps, in the words of the demands. The theorems are in proofs/; docs/CLAIMS.md names each.
 use Prim.Native.Nat.{ℕ, _+_, _*_, _/_, _%_, _^_, _<_}
 use mathlib.Core.Path.{_≡_}
-use mathlib.Core.Logic.{_⊎_}
-use mathlib.Core.Bool.{Bool, false, cond, not, _&&_, _||_}
+use mathlib.Core.Bool.{Bool, true, false, cond, not, _&&_}
 use mathlib.Core.List.{map, zipWith}
 use lib.Dec.{eqb}
 use lib.ListN.{length}
@@ -13,22 +12,52 @@ use Rattle.geometry.specs.Valid.{segmented}
 use Rattle.geometry.specs.Sizes.{sets, rowWords, matchWords, setOf, offsetOf, addressOf}
 use Rattle.geometry.specs.Stages.{stages, stageWidth, stage, rows, indicatorWords}
 use Rattle.reference.specs.Entry.{Entry, empty, pattern, wordOf, holds}
-use Rattle.reference.specs.Calls.{Answer, at, none, matched, shape, lent, matchesAfter}
-use Rattle.reference.specs.Array.{emptied}
+use Rattle.reference.specs.Calls.{Answer, refused, at, none, matched, shape, lent, matchesAfter}
+use Rattle.reference.specs.Array.{Array}
 use Rattle.reference.specs.Tables.{Tables, storeWord, storeEntry, cell, belongs}
 use Rattle.reference.specs.Image.{covers, covered, tablesOf}
 use Rattle.reference.specs.Update.{othersCover}
+use Rattle.reference.specs.Search.{indicated, taken}
 use Rattle.reference.specs.Steps.{Outcome}
-use Rattle.reference.specs.History.{History, run, after, arrayAnswers, arrayOf}
+use Rattle.reference.specs.History.{History, run, after, arrayAnswers, arrayAfter}
 
 -- ---- demand 3
 
--- A history on tables is that of the plain array: every answer; the match word that each call leaves, the lent one after
--- a refusal; and at the end the store and every indicator word, padding bits included.
-pub record Follows (g : Geometry) (t : Tables) (cs : History) : Type 0 where
-  pub answers : map (λ (o : Outcome). o .answer) (run g t cs) ≡ arrayAnswers g (emptied g) (map shape cs)
+-- A history on tables is that of the plain array that begins as es and is fed the shape of each call: every answer; the
+-- match word that each call leaves, the lent one after a refusal; and at the end the store and every indicator word,
+-- padding bits included.
+pub record Follows (g : Geometry) (es : Array) (t : Tables) (cs : History) : Type 0 where
+  pub answers : map (λ (o : Outcome). o .answer) (run g t cs) ≡ arrayAnswers g es (map shape cs)
   pub matches : map (λ (o : Outcome). o .matches) (run g t cs) ≡ zipWith matchesAfter (map (λ (o : Outcome). o .answer) (run g t cs)) (map lent cs)
-  pub tables : after g t cs ≡ tablesOf g (arrayOf g cs)
+  pub tables : after g t cs ≡ tablesOf g (arrayAfter g es (map shape cs))
+
+-- ---- the searches, on any tables
+
+-- Whether the store has the key at an address.
+abbrev pub stores : Tables → (key a : ℕ) → Bool
+stores t key a = eqb (storeWord t a) key
+
+-- A false set, should it be indicated: kind 2, and no entry of it is equal to the key.
+abbrev pub NoEqual : Geometry → Tables → (key set : ℕ) → Type 0
+NoEqual g t key s = (eqb (g .kind) segmented ≡ true) × Nowhere (g .«set_width») (λ o. stores t key (addressOf g s o))
+
+-- What a first-match answers: the first indicated set decides, and in kind 2 the first equal entry in it.
+pub data FirstOnAny (g : Geometry) (t : Tables) (key : ℕ) (answer : Answer) : Type 0 where
+  no-set : Nowhere (sets g) (indicated g t key) → answer ≡ none (rowWords g) 0 → FirstOnAny g t key answer
+  set-alone : (s : ℕ) → First (sets g) (indicated g t key) s → eqb (g .kind) segmented ≡ false
+      → answer ≡ at s (s / 64 + 1) 0 → FirstOnAny g t key answer
+  equal-entry : (s o : ℕ) → First (sets g) (indicated g t key) s → eqb (g .kind) segmented ≡ true
+      → First (g .«set_width») (λ o. stores t key (addressOf g s o)) o
+      → answer ≡ at (addressOf g s o) (s / 64 + 1) (o + 1) → FirstOnAny g t key answer
+  no-equal : (s : ℕ) → First (sets g) (indicated g t key) s → NoEqual g t key s → answer ≡ refused 6 → FirstOnAny g t key answer
+
+-- What an all-match answers: 6 where some indicated set is false; else every address of an indicated set, in kind 2 those
+-- that have the key.
+pub data AllOnAny (g : Geometry) (t : Tables) (key : ℕ) (answer : Answer) : Type 0 where
+  all-taken : ((s : ℕ) → s < sets g → indicated g t key s ≡ true → NoEqual g t key s → ⊥)
+      → answer ≡ matched (tabulate (matchWords g) (λ j. word 64 (λ b. taken g t key (64 * j + b)))) (count (g .depth) (taken g t key))
+      → AllOnAny g t key answer
+  no-equal : (s : ℕ) → s < sets g → indicated g t key s ≡ true → NoEqual g t key s → answer ≡ refused 6 → AllOnAny g t key answer
 
 -- ---- demand 2, where the indicators mirror the store
 
@@ -39,16 +68,13 @@ pub record Mirrors (g : Geometry) (t : Tables) : Type 0 where
   pub words : length (t .indicators) ≡ indicatorWords g
   pub bits : (r s : ℕ) → r < rows g → s < sets g → cell g (t .indicators) r (s / 64) (s % 64) ≡ covered g (storeEntry g t) r s
 
--- Whether the store has the key at an address.
-abbrev pub stores : Tables → (key a : ℕ) → Bool
-stores t key a = eqb (storeWord t a) key
-
 -- A first-match answers with the lowest address that has the key, with document 01's w and c; or none, and no address
 -- has it.
-abbrev pub FirstIs : Geometry → Tables → (key : ℕ) → Answer → Type 0
-FirstIs g t key answer =
-    ((a : ℕ) × First (g .depth) (stores t key) a × (answer ≡ at a (a / (64 * g .«set_width») + 1) (cond (eqb (g .kind) segmented) (offsetOf g a + 1) 0)))
-    ⊎ (Nowhere (g .depth) (stores t key) × (answer ≡ none (rowWords g) 0))
+pub data FirstIs (g : Geometry) (t : Tables) (key : ℕ) (answer : Answer) : Type 0 where
+  lowest : (a : ℕ) → First (g .depth) (stores t key) a
+      → answer ≡ at a (a / (64 * g .«set_width») + 1) (cond (eqb (g .kind) segmented) (offsetOf g a + 1) 0)
+      → FirstIs g t key answer
+  absent : Nowhere (g .depth) (stores t key) → answer ≡ none (rowWords g) 0 → FirstIs g t key answer
 
 -- An all-match answers with the word in which the bit of each address says whether it has the key, and with their number.
 abbrev pub AllAre : Geometry → Tables → (key : ℕ) → Answer → Type 0
@@ -63,7 +89,7 @@ pub record EveryBit (g : Geometry) (t u : Tables) (a : ℕ) (e : Entry) : Type 0
   pub bits : (r j b : ℕ) → j < rowWords g
       → cell g (u .indicators) r j b
       ≡ cond (belongs (setOf g a) j b)
-      (covers g e r || (not (covers g (storeEntry g t a) r && not (othersCover g t a r)) && cell g (t .indicators) r j b))
+      (cond (covers g e r) true (cond (covers g (storeEntry g t a) r && not (othersCover g t a r)) false (cell g (t .indicators) r j b)))
       (cell g (t .indicators) r j b)
   pub words : length (u .indicators) ≡ length (t .indicators)
   pub entry : storeWord u a ≡ wordOf e
@@ -84,7 +110,7 @@ PatternBits g t u a e =
     (r j b : ℕ) → j < rowWords g
     → cell g (u .indicators) r j b
     ≡ cond (belongs (setOf g a) j b)
-    (holds e r || (not (holds (storeEntry g t a) r && not (othersHold g t a r)) && cell g (t .indicators) r j b))
+    (cond (holds e r) true (cond (holds (storeEntry g t a) r && not (othersHold g t a r)) false (cell g (t .indicators) r j b)))
     (cell g (t .indicators) r j b)
 
 -- Whether an entry is a pattern whose stage k is x.
@@ -99,5 +125,5 @@ StageBits g t u a e =
     (k x j b : ℕ) → k < stages g → x < 2 ^ stageWidth g k → j < rowWords g
     → cell g (u .indicators) (512 * k + x) j b
     ≡ cond (belongs (setOf g a) j b)
-    (holdsStage g k x e || (not (holdsStage g k x (storeEntry g t a)) && cell g (t .indicators) (512 * k + x) j b))
+    (cond (holdsStage g k x e) true (cond (holdsStage g k x (storeEntry g t a)) false (cell g (t .indicators) (512 * k + x) j b)))
     (cell g (t .indicators) (512 * k + x) j b)

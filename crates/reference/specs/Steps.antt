@@ -16,7 +16,7 @@ use Rattle.reference.specs.Calls.{Call, clear, write, erase, read, first
 use Rattle.reference.specs.Refusals.{Refusal, _given-when_, firstRefusal, badAddress, badPattern}
 use Rattle.reference.specs.Tables.{Tables, storeWord, storeEntry}
 use Rattle.reference.specs.Update.{replaced}
-use Rattle.reference.specs.Search.{firstIsFalse, anyIsFalse, firstAnswer, takenWords}
+use Rattle.reference.specs.Search.{isFalse, firstFound, anyIsFalse, answerOf, takenWords}
 
 -- "store not D, indicators not R × all rows"
 unfoldable pub badLengths : Geometry → Tables → Bool
@@ -41,7 +41,7 @@ ownRefusals g t clear = []
 ownRefusals g t (write a p) = 3 given-when badAddress g a ∷ 4 given-when badPattern g p ∷ 5 given-when badEntry g t a ∷ []
 ownRefusals g t (erase a) = 3 given-when badAddress g a ∷ 5 given-when badEntry g t a ∷ []
 ownRefusals g t (read a) = 3 given-when badAddress g a ∷ 5 given-when badEntry g t a ∷ []
-ownRefusals g t (firstMatch key) = 4 given-when badPattern g key ∷ 6 given-when firstIsFalse g t key ∷ []
+ownRefusals g t (firstMatch key) = 4 given-when badPattern g key ∷ 6 given-when isFalse (firstFound g t key) ∷ []
 ownRefusals g t (allMatch key m) = 4 given-when badPattern g key ∷ 6 given-when anyIsFalse g t key ∷ []
 
 -- The whole table at a call.
@@ -64,7 +64,7 @@ accepted g t clear = record { answer = cleared; tables = clearTables g; matches 
 accepted g t (write a p) = record { answer = held (storeEntry g t a); tables = replaced g t a (pattern p); matches = [] }
 accepted g t (erase a) = record { answer = held (storeEntry g t a); tables = replaced g t a empty; matches = [] }
 accepted g t (read a) = record { answer = held (storeEntry g t a); tables = t; matches = [] }
-accepted g t (firstMatch key) = record { answer = firstAnswer g t key; tables = t; matches = [] }
+accepted g t (firstMatch key) = record { answer = answerOf (firstFound g t key); tables = t; matches = [] }
 accepted g t (allMatch key m) = record {
   answer = matched (takenWords g t key) (totalOnes (takenWords g t key));
   tables = t;

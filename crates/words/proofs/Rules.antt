@@ -20,6 +20,11 @@ both-ways true b p q = sym (p refl)
 both-ways false true p q = q refl
 both-ways false false p q = refl
 
+-- a test that cannot be true is false
+pub refuted : (b : Bool) → (b ≡ true → ⊥) → b ≡ false
+refuted true h = absurd (h refl)
+refuted false h = refl
+
 pub any-witness : (n : ℕ) (r : ℕ → Bool) → any n r ≡ true → (i : ℕ) × (i < n) × (r i ≡ true)
 unfolding any
 any-witness zero r h = absurd (false≢true h)

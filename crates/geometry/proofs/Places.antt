@@ -60,6 +60,11 @@ module _ (g : Geometry) (f : Facts g) where
   unfolding rowWords
   sets-most = omega arith
 
+  -- and no more words than that: rounded up, and not further
+  pub words-least : 64 * rowWords g < sets g + 64
+  unfolding rowWords
+  words-least = omega arith
+
   pub words-pos : 0 < rowWords g
   unfolding rowWords
   words-pos = omega (arith, sets-pos)
@@ -72,6 +77,10 @@ module _ (g : Geometry) (f : Facts g) where
   pub matches-most : g .depth ≤ 64 * matchWords g
   unfolding matchWords
   matches-most = omega arith
+
+  pub matches-least : 64 * matchWords g < g .depth + 64
+  unfolding matchWords
+  matches-least = omega arith
 
   -- word j of row r, and back
   pub place-lt : (r j : ℕ) → r < rows g → j < rowWords g → rowWords g * r + j < indicatorWords g

@@ -5,7 +5,7 @@ use mathlib.Core.Path.{_≡_, refl, sym, ap, _∙_}
 use mathlib.Core.Bool.{Bool, true, false, cond}
 use mathlib.Core.List.{[], _∷_}
 use mathlib.Core.Logic.{_⊎_, inl, inr}
-use native.Mathlib.Nat.{mod-lt, mul-suc}
+use native.Mathlib.Nat.{zero-add, mod-lt, mul-suc}
 use native.Mathlib.Omega.{arith}
 use lib.Dec.{eqb, ltb}
 use lib.Pow.{pow-pos, shr-shr, shr-mod, split}
@@ -36,11 +36,12 @@ module _ (g : Geometry) (f : Facts g) where
   unfolding stage
   stage-lt k p = mod-lt _ (pow-pos (stageWidth g k))
 
-  width-inner : (k : ℕ) → k + 1 < stages g → stageWidth g k ≡ 9
+  -- nine bits in each stage but the last, which has those that are left
+  pub width-inner : (k : ℕ) → k + 1 < stages g → stageWidth g k ≡ 9
   unfolding stageWidth
   width-inner k h = rw (lt-ltb (k + 1) (stages g) h)
 
-  width-last : (k : ℕ) → k + 1 ≡ stages g → stageWidth g k ≡ g .«pattern_width» - 9 * k
+  pub width-last : (k : ℕ) → k + 1 ≡ stages g → stageWidth g k ≡ g .«pattern_width» - 9 * k
   unfolding stageWidth
   width-last k e = rw (le-ltb (k + 1) (stages g) (omega arith))
 
@@ -100,15 +101,32 @@ module _ (g : Geometry) (f : Facts g) where
           let k-is : k ≡ l = row-stage k l x (stage g l p) h m small (stage-lt l p) same in
           eq-eqb x (stage g k p) (omega (arith, rw (← k-is) at same))
 
+  -- the cascaded kind has as many stages of nine bits as the width asks, and no more
+  pub stages-cascaded : eqb (g .kind) cascaded ≡ true → (g .«pattern_width» ≤ 9 * stages g) × (9 * stages g < g .«pattern_width» + 9)
+  unfolding stages
+  stages-cascaded e = rw e (omega arith, omega arith)
+
   -- only the cascaded kind has more than one stage
   pub one-stage-kind : eqb (g .kind) cascaded ≡ false → stages g ≡ 1
   unfolding stages
   one-stage-kind e = rw e
 
   -- where there is one stage, it is the whole pattern, and the pattern is its row
+  pub one-row : (p : ℕ) → stages g ≡ 1 → p < patterns g → rowOf g p 0 ≡ p
+  unfolding rowOf
+  one-row p e h = omega (arith, last 0 p (sym e) h)
+
   pub one-stage : (p : ℕ) → stages g ≡ 1 → p < patterns g → rowsOf g p ≡ (p ∷ [])
-  unfolding rowsOf rowOf tabulate
-  one-stage p e h = rw e (ap (λ (r : ℕ). r ∷ []) (omega (arith, last 0 p (sym e) h)))
+  unfolding rowsOf tabulate
+  one-stage p e h = rw e (ap (λ (r : ℕ). r ∷ []) (one-row p e h))
+
+  -- "one row for each pattern, 2^P in all"
+  pub rows-patterns : eqb (g .kind) cascaded ≡ false → rows g ≡ patterns g
+  unfolding rows patterns
+  rows-patterns e =
+      let one = one-stage-kind e in
+      let width : stageWidth g 0 ≡ g .«pattern_width» = width-last 0 (sym one) ∙ omega arith in
+      rw (one, width) (zero-add _)
 
   -- every stage but the last has 512 rows
   rows-before : (k : ℕ) → k < stages g → rowsBefore g k ≡ 512 * k

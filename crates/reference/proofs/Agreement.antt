@@ -1,16 +1,17 @@
 -- One call on the tables of an array agrees with the same call on the array: answer, tables and refusal number.
 use Prim.Native.Nat.{ℕ, _+_, _*_, _<_}
 use mathlib.Core.Path.{_≡_, refl, sym, ap, ap₂, _∙_}
-use mathlib.Core.Bool.{Bool, true, false, not, _||_, or-true, false≢true}
+use mathlib.Core.Logic.{_⊎_, inl, inr}
+use mathlib.Core.Bool.{Bool, true, false, not, false≢true}
 use mathlib.Core.List.{List, [], _∷_, _++_}
 use mathlib.Core.Option as Option
 use mathlib.Core.Option.{Option}
 use native.Mathlib.Nat.{zero-add}
 use native.Mathlib.Omega.{arith}
-use lib.Dec.{eqb, ltb}
+use lib.Dec.{eqb}
 use lib.ListN.{length, set, length-set}
 use lib.Seq.{getD-set-same, getD-set-other}
-use borrow.Author.Tests.{lt-ltb, eqb-true, eqb-false}
+use borrow.Author.Tests.{eqb-true, eqb-false}
 use Rattle.words.specs.Rules.{count, First}
 use Rattle.words.specs.Bits.{totalOnes}
 use Rattle.words.proofs.Rules.{count-ext, tabulate-ext, first-unique}
@@ -19,7 +20,7 @@ use Rattle.geometry.specs.declared.Geometry.{Geometry}
 use Rattle.geometry.specs.Valid.{valid}
 use Rattle.geometry.specs.Sizes.{patterns, matchWords}
 use Rattle.geometry.proofs.Facts.{Facts, facts}
-use Rattle.reference.specs.Entry.{Entry, empty, pattern, emptyWord, wordOf, holds}
+use Rattle.reference.specs.Entry.{Entry, empty, pattern, wordOf, holds}
 use Rattle.reference.specs.Calls.{Call, clear, write, erase, read, firstMatch, allMatch, shape, held, matched}
 use Rattle.reference.specs.Refusals.{Refusal, _given-when_, firstRefusal, Passed, badAddress, badPattern}
 use Rattle.reference.specs.Array as Array
@@ -29,10 +30,10 @@ use Rattle.reference.specs.Image.{tablesOf}
 use Rattle.reference.specs.Search.{firstFound, answerOf, taken, takenWords}
 use Rattle.reference.specs.Statements.{Mirrors, stores, FirstIs, lowest, absent}
 use Rattle.reference.specs.Steps.{badMatches, badEntry, ownRefusals, refusals, Outcome, accepted, outcome, step}
-use Rattle.reference.proofs.Limits.{address-passes, pattern-passes}
+use Rattle.reference.proofs.Limits.{lengths-pass, address-passes, pattern-passes, entry-passes}
 use Rattle.reference.proofs.Covering.{holds-word}
 use Rattle.reference.proofs.Mirrored.{first-is, first-not-false, none-false, taken-is}
-use Rattle.reference.proofs.Searched.{lengths-pass, first-any, taken-counted}
+use Rattle.reference.proofs.Searched.{first-any, taken-counted}
 use Rattle.reference.proofs.Image.{store-word, store-entry, image-mirrors, replaced-image}
 use Rattle.reference.proofs.Lowest.{holding, LowestIs, at-first, at-none, lowest-is, hits-are}
 use Rattle.reference.proofs.Refused.{passes}
@@ -74,23 +75,23 @@ module _ (g : Geometry) (ok : valid g ≡ true) (es : Array) (sound : Sound g es
   held-is : (key : ℕ) → key < patterns g → (a : ℕ) → eqb (storeWord (tablesOf g es) a) key ≡ holding es key a
   held-is key small a = sym (holds-word g f key small (storeWord (tablesOf g es) a)) ∙ ap (λ e. holds e key) (store-entry g f es sound a)
 
-  entry-passes : (a : ℕ) → badEntry g (tablesOf g es) a ≡ false
-  unfolding badEntry wordOf
-  entry-passes a = rw (store-word g f es sound a) (go (entryAt es a) (sound .fits a))
+  no-bad-entry : (a : ℕ) → badEntry g (tablesOf g es) a ≡ false
+  unfolding wordOf
+  no-bad-entry a = entry-passes g (tablesOf g es) a .1 (rw (store-word g f es sound a) (go (entryAt es a) (sound .fits a)))
     where
-      go : (e : Entry) → ((p : ℕ) → e ≡ pattern p → p < patterns g) → not (eqb (wordOf e) emptyWord || ltb (wordOf e) (patterns g)) ≡ false
-      go empty h = refl
-      go (pattern p) h = rw (lt-ltb p (patterns g) (h p refl), or-true (eqb p emptyWord))
+      go : (e : Entry) → ((p : ℕ) → e ≡ pattern p → p < patterns g) → (wordOf e ≡ 4294967295) ⊎ (wordOf e < patterns g)
+      go empty h = inl refl
+      go (pattern p) h = inr (h p refl)
 
   pub same-refusals : (c : Call (List ℕ)) → firstRefusal (refusals g (tablesOf g es) c) ≡ firstRefusal (arrayRefusals g (shape c))
   unfolding refusals firstRefusal ownRefusals arrayRefusals shape badMatches
-  same-refusals c = rw (ok, lengths-pass g (tablesOf g es) (mirrors .entries) (mirrors .words)) (go c)
+  same-refusals c = rw (ok, lengths-pass g (tablesOf g es) .1 (mirrors .entries, mirrors .words)) (go c)
     where
       go : (c : Call (List ℕ)) → firstRefusal (2 given-when badMatches g c ∷ ownRefusals g (tablesOf g es) c) ≡ firstRefusal (arrayRefusals g (shape c))
       go clear = refl
-      go (write a p) = rw (entry-passes a) (last-passes (3 given-when badAddress g a ∷ 4 given-when badPattern g p ∷ []) 5)
-      go (erase a) = rw (entry-passes a) (last-passes (3 given-when badAddress g a ∷ []) 5)
-      go (read a) = rw (entry-passes a) (last-passes (3 given-when badAddress g a ∷ []) 5)
+      go (write a p) = rw (no-bad-entry a) (last-passes (3 given-when badAddress g a ∷ 4 given-when badPattern g p ∷ []) 5)
+      go (erase a) = rw (no-bad-entry a) (last-passes (3 given-when badAddress g a ∷ []) 5)
+      go (read a) = rw (no-bad-entry a) (last-passes (3 given-when badAddress g a ∷ []) 5)
       go (firstMatch key) = key-passes g key 6 _ (first-not-false g f (tablesOf g es) mirrors key) []
       go (allMatch key m) = key-passes g key 6 _ (none-false g f (tablesOf g es) mirrors key) (2 given-when not (eqb (length m) (matchWords g)) ∷ [])
 

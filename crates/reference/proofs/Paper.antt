@@ -3,20 +3,21 @@
 use Prim.Native.Nat.{ℕ, _+_, _*_, _/_, _%_, _^_, _<_, _≤_}
 use mathlib.Core.Path.{_≡_, refl, sym, ap, _∙_}
 use mathlib.Core.Bool.{Bool, true, false, cond, not, _&&_, and-true, and-false, or-false}
-use mathlib.Core.List.{[], _∷_}
+use mathlib.Core.List.{List, [], _∷_}
 use native.Mathlib.Omega.{arith}
 use lib.Dec.{eqb, ltb}
-use lib.ListN.{List·getD-eq-default}
+use lib.ListN.{getD, List·getD-eq-default}
 use borrow.Author.Tests.{ltb-true, lt-ltb, eqb-true, eq-eqb}
 use Rattle.words.specs.Rules.{any, member}
+use Rattle.words.specs.Bits.{bit}
 use Rattle.words.proofs.Rules.{both-ways, any-ext, any-false}
 use Rattle.geometry.specs.declared.Geometry.{Geometry}
 use Rattle.geometry.specs.Valid.{valid, cascaded}
 use Rattle.geometry.specs.Sizes.{patterns, sets, rowWords, setOf, offsetOf, addressOf}
-use Rattle.geometry.specs.Stages.{stages, stageWidth, rowsOf, rows}
+use Rattle.geometry.specs.Stages.{stages, stageWidth, stage, rowOf, rowsOf, rows}
 use Rattle.geometry.proofs.Facts.{Facts, facts}
 use Rattle.geometry.proofs.Places.{offset-lt, address-past, address-of, word-lt}
-use Rattle.geometry.proofs.Stages.{row-lt, row-among, one-stage-kind, one-stage}
+use Rattle.geometry.proofs.Stages.{row-lt, row-among, one-stage-kind, one-row, one-stage}
 use Rattle.reference.specs.Entry.{Entry, empty, pattern, entryOf, holds}
 use Rattle.reference.specs.Calls.{write, erase, held}
 use Rattle.reference.specs.Array.{Array, entryAt, Sound}
@@ -39,8 +40,9 @@ word-fits g w p = go (ltb w (patterns g)) refl
     go false e h = absurd (let z : _≡_ {A = ℕ} 0 1 = cc in omega arith)
 
 -- "Slice k starts at word R × 512 × k; its row r begins R × r words later."
-pub stage-starts : (g : Geometry) (k r j : ℕ) → rowWords g * (512 * k + r) + j ≡ rowWords g * 512 * k + rowWords g * r + j
-stage-starts g k r j = omega arith
+pub stage-starts : (g : Geometry) (ind : List ℕ) (p k j b : ℕ) → cell g ind (rowOf g p k) j b ≡ bit (getD ind (rowWords g * 512 * k + rowWords g * stage g k p + j) 0) b
+unfolding rowOf
+stage-starts g ind p k j b = ap (λ m. bit (getD ind m 0) b) (omega arith)
 
 -- past the last set there is no address to cover a row
 uncovered : (g : Geometry) → Facts g → (es : Array) → Sound g es → (r s : ℕ) → sets g ≤ s → covered g (entryAt es) r s ≡ false
@@ -68,6 +70,10 @@ module _ (g : Geometry) (ok : valid g ≡ true) (kind : eqb (g .kind) cascaded �
   -- "one row for each pattern"
   pub row-of-pattern : (p : ℕ) → p < patterns g → rowsOf g p ≡ (p ∷ [])
   row-of-pattern p h = one-stage g (facts g ok) p (one-stage-kind g (facts g ok) kind) h
+
+  -- "word j of row p is number R × p + j"
+  pub pattern-starts : (ind : List ℕ) (p j b : ℕ) → p < patterns g → cell g ind (rowOf g p 0) j b ≡ bit (getD ind (rowWords g * p + j) 0) b
+  pattern-starts ind p j b h = ap (λ r. cell g ind r j b) (one-row g (facts g ok) p (one-stage-kind g (facts g ok) kind) h)
 
   covers-pattern : (e : Entry) → ((p : ℕ) → e ≡ pattern p → p < patterns g) → (r : ℕ) → covers g e r ≡ holds e r
   unfolding covers entryRows holds member

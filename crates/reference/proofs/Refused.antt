@@ -3,13 +3,13 @@
 use Prim.Native.Nat.{ℕ}
 use mathlib.Core.Path.{_≡_, refl, sym, ap, _∙_}
 use mathlib.Core.Logic.{_↔_}
-use mathlib.Core.Bool.{Bool, true, false, _||_, and-eq-true-iff, true≢false, false≢true}
+use mathlib.Core.Bool.{Bool, true, false, _||_, true≢false, false≢true}
 use mathlib.Core.List.{List, [], _∷_, _++_, append-nil}
 use mathlib.Core.Option as Option
 use mathlib.Core.Option.{Option}
 use native.Mathlib.Omega.{arith}
 use lib.ListN.{length}
-use borrow.Author.Tests.{not-false, eqb-true}
+use borrow.Author.Tests.{not-false}
 use Rattle.geometry.specs.declared.Geometry.{Geometry}
 use Rattle.geometry.specs.Valid.{valid}
 use Rattle.geometry.specs.Stages.{indicatorWords}
@@ -17,6 +17,7 @@ use Rattle.reference.specs.Calls.{Call, clear, write, erase, read, first
 use Rattle.reference.specs.Refusals.{Refusal, _given-when_, firstRefusal, Passed, FirstApplies}
 use Rattle.reference.specs.Tables.{Tables}
 use Rattle.reference.specs.Search.{Found, hit, nothing, falseSet, isFalse, firstFound, answerOf}
+use Rattle.reference.proofs.Limits.{lengths-pass}
 use Rattle.reference.specs.Steps.{badLengths, badMatches, ownRefusals, refusals, accepted, outcome, step}
 
 -- the table is passed exactly when it is passed row by row
@@ -99,10 +100,8 @@ passed-valid g t c p = not-false (valid g) (p .0)
 
 -- both tables have their lengths
 pub passed-lengths : (g : Geometry) (t : Tables) (c : Call (List ℕ)) → Passed (refusals g t c) → (length (t .store) ≡ g .depth) × (length (t .indicators) ≡ indicatorWords g)
-unfolding refusals badLengths
-passed-lengths g t c p =
-    let both = and-eq-true-iff _ _ .0 (not-false _ (first-half (badLengths g t) (badMatches g c) (p .1 .0))) in
-    (eqb-true _ _ (both .0), eqb-true _ _ (both .1))
+unfolding refusals
+passed-lengths g t c p = lengths-pass g t .0 (first-half (badLengths g t) (badMatches g c) (p .1 .0))
   where
     first-half : (a b : Bool) → (a || b) ≡ false → a ≡ false
     first-half true b h = absurd (true≢false h)

@@ -17,14 +17,14 @@ use Rattle.geometry.proofs.Facts.{Facts, facts}
 use Rattle.geometry.proofs.Places.{set-lt}
 use Rattle.geometry.proofs.Stages.{stage-lt, row-lt}
 use Rattle.reference.specs.Entry.{Entry, empty, pattern, wordOf}
-use Rattle.reference.specs.Calls.{Call, write, erase, held}
+use Rattle.reference.specs.Calls.{Call, write, erase, read, held}
 use Rattle.reference.specs.Refusals.{Passed, badAddress}
-use Rattle.reference.specs.Tables.{Tables, storeEntry, cell, belongs}
+use Rattle.reference.specs.Tables.{Tables, storeWord, storeEntry, cell, belongs}
 use Rattle.reference.specs.Image.{entryRows, covers}
 use Rattle.reference.specs.Statements.{EveryBit}
 use Rattle.reference.specs.Update.{othersCover, released, replaced}
-use Rattle.reference.specs.Steps.{ownRefusals, refusals, accepted, outcome, step}
-use Rattle.reference.proofs.Limits.{address-passes}
+use Rattle.reference.specs.Steps.{badEntry, ownRefusals, refusals, accepted, outcome, step}
+use Rattle.reference.proofs.Limits.{address-passes, passed-entry}
 use Rattle.reference.proofs.Refused.{passed-none, not-refused, passed-valid, passed-lengths}
 use Rattle.reference.proofs.Cells.{length-change, set-cell, clear-cell}
 
@@ -74,6 +74,29 @@ replaced-bits g f t a e ha stored indicated = record {
     formula false true false false c = refl
     formula false false O true c = refl
     formula false false O false c = refl
+
+-- ---- accepted calls
+
+-- A call that passed the table and gives the entry at address a: the store's word there tells it.
+gives : (g : Geometry) (t : Tables) (c : Call (List ℕ)) (a : ℕ) (e : Entry) → Passed (refusals g t c) → badEntry g t a ≡ false
+    → accepted g t c .answer ≡ held (storeEntry g t a) → step g t c .answer ≡ held e → (e ≡ storeEntry g t a) × (wordOf e ≡ storeWord t a)
+unfolding step outcome
+gives g t c a e passed good answer h =
+    let same : e ≡ storeEntry g t a = cc (answer, rw (passed-none (refusals g t c) passed) at h) in
+    (same, rw same (passed-entry g (facts g (passed-valid g t c passed)) t a good))
+
+-- "gives the former entry", "gives the entry"
+pub write-gives : (g : Geometry) (t : Tables) (a p : ℕ) (e : Entry) → step g t (write a p) .answer ≡ held e → (e ≡ storeEntry g t a) × (wordOf e ≡ storeWord t a)
+unfolding refusals ownRefusals accepted
+write-gives g t a p e h = let passed = not-refused g t (write a p) (held e) refl h in gives g t (write a p) a e passed (passed .1 .1 .1 .1 .0) refl h
+
+pub erase-gives : (g : Geometry) (t : Tables) (a : ℕ) (e : Entry) → step g t (erase a) .answer ≡ held e → (e ≡ storeEntry g t a) × (wordOf e ≡ storeWord t a)
+unfolding refusals ownRefusals accepted
+erase-gives g t a e h = let passed = not-refused g t (erase a) (held e) refl h in gives g t (erase a) a e passed (passed .1 .1 .1 .0) refl h
+
+pub read-gives : (g : Geometry) (t : Tables) (a : ℕ) (e : Entry) → step g t (read a) .answer ≡ held e → (e ≡ storeEntry g t a) × (wordOf e ≡ storeWord t a)
+unfolding refusals ownRefusals accepted
+read-gives g t a e h = let passed = not-refused g t (read a) (held e) refl h in gives g t (read a) a e passed (passed .1 .1 .1 .0) refl h
 
 -- A call that passed the table and puts e at address a.
 module _ (g : Geometry) (t : Tables) (c : Call (List ℕ)) (a : ℕ) (e : Entry) (passed : Passed (refusals g t c))

@@ -27,9 +27,9 @@ use Rattle.reference.specs.Calls.{firstMatch, allMatch, none, refused, m
 use Rattle.reference.specs.Refusals.{_given-when_, firstRefusal}
 use Rattle.reference.specs.Tables.{Tables, storeWord, cell}
 use Rattle.reference.specs.Search.{setMask, joined, indicated, seekWord, seekEntry, lowestSet, Found, hit, nothing, falseSet, isFalse, inSet, firstFound, anyIsFalse, answerOf, taken, takenWords}
-use Rattle.reference.specs.Steps.{badLengths, badMatches, ownRefusals, refusals, accepted, outcome, step}
+use Rattle.reference.specs.Steps.{badMatches, ownRefusals, refusals, accepted, outcome, step}
 use Rattle.reference.specs.Statements.{stores, NoEqual, FirstOnAny, no-set, set-alone, equal-entry, AllOnAny, all-taken}
-use Rattle.reference.proofs.Limits.{pattern-passes}
+use Rattle.reference.proofs.Limits.{lengths-pass, pattern-passes}
 
 module _ (g : Geometry) (t : Tables) (j : ℕ) where
   joins : ℕ → ℕ → ℕ
@@ -105,29 +105,38 @@ module _ (g : Geometry) (t : Tables) (key : ℕ) where
   abbrev equalAt : (set offset : ℕ) → Bool
   equalAt s o = stores t key (addressOf g s o)
 
+  -- the comparison of a set's entries finds the first that is equal, and has looked at it and all before it
+  entry-found : (s o c : ℕ) → seekEntry g t key s ≡ found o c → First (g .«set_width») (equalAt s) o × (c ≡ o + 1)
+  unfolding seekEntry
+  entry-found s o c e = seek-found (g .«set_width») (equalAt s) o c e
+
+  entry-missed : (s c : ℕ) → seekEntry g t key s ≡ missed c → Nowhere (g .«set_width») (equalAt s)
+  unfolding seekEntry
+  entry-missed s c e = seek-missed (g .«set_width») (equalAt s) c e .0
+
   -- a set is false exactly when it has no equal entry
   pub false-means : (s w : ℕ) → (isFalse (inSet g t key s w) ≡ true) ↔ NoEqual g t key s
-  unfolding isFalse inSet seekEntry
+  unfolding isFalse inSet
   false-means s w = (there (eqb (g .kind) segmented) (seekEntry g t key s) refl refl, back (seekEntry g t key s) refl)
     where
       there : (b : Bool) (r : Sought) → eqb (g .kind) segmented ≡ b → seekEntry g t key s ≡ r → isFalse (inSet g t key s w) ≡ true → NoEqual g t key s
       there true (found o c) p q h = absurd (false≢true (rw (p, inSet, q) at h))
-      there true (missed c) p q h = (p, seek-missed (g .«set_width») (equalAt s) c q .0)
+      there true (missed c) p q h = (p, entry-missed s c q)
       there false r p q h = absurd (false≢true (rw (p, inSet) at h))
 
       back : (r : Sought) → seekEntry g t key s ≡ r → NoEqual g t key s → isFalse (inSet g t key s w) ≡ true
-      back (found o c) q (kind, nowhere) = let first = seek-found (g .«set_width») (equalAt s) o c q .0 in absurd (false≢true (sym (nowhere o (first .within)) ∙ first .here))
+      back (found o c) q (kind, nowhere) = let first = entry-found s o c q .0 in absurd (false≢true (sym (nowhere o (first .within)) ∙ first .here))
       back (missed c) q (kind, nowhere) = rw (kind, inSet, q)
 
   in-set : (s w : ℕ) → First (sets g) (indicated g t key) s → w ≡ s / 64 + 1 → FirstOnAny g t key (answerOf (inSet g t key s w))
-  unfolding inSet answerOf seekEntry
+  unfolding inSet answerOf
   in-set s w first looks = go (eqb (g .kind) segmented) (seekEntry g t key s) refl refl
     where
       go : (b : Bool) (r : Sought) → eqb (g .kind) segmented ≡ b → seekEntry g t key s ≡ r → FirstOnAny g t key (answerOf (inSet g t key s w))
       go true (found o c) p q =
-          let e = seek-found (g .«set_width») (equalAt s) o c q in
+          let e = entry-found s o c q in
           equal-entry s o first p (e .0) (rw (p, inSet, q, looks, e .1))
-      go true (missed c) p q = FirstOnAny.no-equal s first (p, seek-missed (g .«set_width») (equalAt s) c q .0) (rw (p, inSet, q))
+      go true (missed c) p q = FirstOnAny.no-equal s first (p, entry-missed s c q) (rw (p, inSet, q))
       go false r p q = set-alone s first p (rw (p, inSet, looks))
 
 -- no word of the row was found: no set is indicated, and every word was looked at
@@ -226,16 +235,12 @@ false-answer (hit a w c) h = absurd (false≢true h)
 false-answer (nothing w) h = absurd (false≢true h)
 false-answer falseSet h = refl
 
-pub lengths-pass : (g : Geometry) (t : Tables) → length (t .store) ≡ g .depth → length (t .indicators) ≡ indicatorWords g → badLengths g t ≡ false
-unfolding badLengths
-lengths-pass g t stored words = rw (eq-eqb _ _ stored, eq-eqb _ _ words)
-
 -- A geometry, tables of its lengths and a pattern of it: nothing else is asked.
 module _ (g : Geometry) (ok : valid g ≡ true) (t : Tables) (stored : length (t .store) ≡ g .depth) (words : length (t .indicators) ≡ indicatorWords g)
     (key : ℕ) (small : key < patterns g) where
   pub first-match-any : FirstOnAny g t key (step g t (firstMatch key) .answer)
   unfolding step outcome refusals ownRefusals badMatches firstRefusal accepted
-  first-match-any = rw (ok, lengths-pass g t stored words, pattern-passes g key .1 small) (go (isFalse (firstFound g t key)) refl)
+  first-match-any = rw (ok, lengths-pass g t .1 (stored, words), pattern-passes g key .1 small) (go (isFalse (firstFound g t key)) refl)
     where
       go : (b : Bool) → isFalse (firstFound g t key) ≡ b → FirstOnAny g t key (outcome g t (firstMatch key) (firstRefusal (6 given-when b ∷ [])) .answer)
       go true e = rw (false-answer (firstFound g t key) e) at (first-any g (facts g ok) t key)
@@ -244,7 +249,7 @@ module _ (g : Geometry) (ok : valid g ≡ true) (t : Tables) (stored : length (t
   pub all-match-any : (m : List ℕ) → length m ≡ matchWords g → AllOnAny g t key (step g t (allMatch key m) .answer)
   unfolding step outcome refusals ownRefusals badMatches firstRefusal accepted
   all-match-any m long =
-      rw (ok, lengths-pass g t stored words, eq-eqb (length m) (matchWords g) long, pattern-passes g key .1 small) (go (anyIsFalse g t key) refl)
+      rw (ok, lengths-pass g t .1 (stored, words), eq-eqb (length m) (matchWords g) long, pattern-passes g key .1 small) (go (anyIsFalse g t key) refl)
     where
       go : (b : Bool) → anyIsFalse g t key ≡ b → AllOnAny g t key (outcome g t (allMatch key m) (firstRefusal (6 given-when b ∷ [])) .answer)
       go true e = let (s, inside, h, none-equal) = any-false-means g t key .0 e in AllOnAny.no-equal s inside h none-equal refl

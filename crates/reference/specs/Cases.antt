@@ -1,11 +1,13 @@
--- Document 01's cases P1 to P10 as rows of one table. proofs/Cases.antt computes them.
+-- Document 01's cases P1 to P10 as rows of one table, and single calls on damaged tables as rows of another.
+-- proofs/Cases.antt computes both.
 use Prim.Native.Nat.{ℕ}
 use mathlib.Core.List.{List, [], _∷_}
-use lib.ListN.{replicate}
+use lib.ListN.{set, replicate}
 use Rattle.geometry.specs.declared.Geometry.{Geometry}
-use Rattle.reference.specs.Entry.{empty, pattern, emptyWord}
-use Rattle.reference.specs.Calls.{Call, clear, write, erase, firstMatch, allMatch, Answer, refused, cleared, held, at, none, matched}
+use Rattle.reference.specs.Entry.{empty, pattern}
+use Rattle.reference.specs.Calls.{Call, clear, write, erase, read, firstMatch, allMatch, Answer, refused, cleared, held, at, none, matched}
 use Rattle.reference.specs.Tables.{Tables}
+use Rattle.reference.specs.Steps.{Outcome, clearTables}
 
 -- Calls in a row from some tables, and the answers they get.
 pub record Case : Type 0 where
@@ -40,27 +42,125 @@ onK = cleared-first K (unclear 2 514)
 
 -- P10's tables: clear, and then word 1 of the indicators made 2 by hand.
 abbrev pub damaged : Tables
-damaged = record { store = replicate 8 emptyWord; indicators = 0 ∷ 2 ∷ 0 ∷ 0 ∷ [] }
+damaged = record { store = clearTables S .store; indicators = set (clearTables S .indicators) 1 2 }
 
 unfoldable pub cases : List Case
 cases =
-    onS (firstMatch 0 ∷ [])
-    (none 1 0 ∷ [])
-    ∷ onS (write 3 0 ∷ firstMatch 0 ∷ [])
-    (held empty ∷ at 3 1 2 ∷ [])
-    ∷ onS (write 2 1 ∷ write 3 1 ∷ write 3 2 ∷ firstMatch 1 ∷ [])
-    (held empty ∷ held empty ∷ held (pattern 1) ∷ at 2 1 1 ∷ [])
-    ∷ onS (write 2 1 ∷ write 2 1 ∷ firstMatch 1 ∷ [])
-    (held empty ∷ held (pattern 1) ∷ at 2 1 1 ∷ [])
-    ∷ onS (write 6 3 ∷ write 1 3 ∷ firstMatch 3 ∷ allMatch 3 (9 ∷ []) ∷ [])
-    (held empty ∷ held empty ∷ at 1 1 2 ∷ matched (66 ∷ []) 2 ∷ [])
-    ∷ onK (write 0 1 ∷ write 1 514 ∷ firstMatch 513 ∷ firstMatch 514 ∷ [])
-    (held empty ∷ held empty ∷ none 1 0 ∷ at 1 1 0 ∷ [])
-    ∷ onK (write 0 1 ∷ write 0 513 ∷ firstMatch 513 ∷ firstMatch 1 ∷ [])
-    (held empty ∷ held (pattern 1) ∷ at 0 1 0 ∷ none 1 0 ∷ [])
-    ∷ cleared-first deep (unclear 65 4) (write 64 1 ∷ firstMatch 1 ∷ [])
-    (held empty ∷ at 64 2 0 ∷ [])
-    ∷ onS (erase 5 ∷ [])
-    (held empty ∷ [])
+    -- P1
+    onS (firstMatch 0 ∷ []) (none 1 0 ∷ [])
+    -- P2
+    ∷ onS (write 3 0 ∷ firstMatch 0 ∷ []) (held empty ∷ at 3 1 2 ∷ [])
+    -- P3
+    ∷ onS (write 2 1 ∷ write 3 1 ∷ write 3 2 ∷ firstMatch 1 ∷ []) (held empty ∷ held empty ∷ held (pattern 1) ∷ at 2 1 1 ∷ [])
+    -- P4
+    ∷ onS (write 2 1 ∷ write 2 1 ∷ firstMatch 1 ∷ []) (held empty ∷ held (pattern 1) ∷ at 2 1 1 ∷ [])
+    -- P5
+    ∷ onS (write 6 3 ∷ write 1 3 ∷ firstMatch 3 ∷ allMatch 3 (9 ∷ []) ∷ []) (held empty ∷ held empty ∷ at 1 1 2 ∷ matched (66 ∷ []) 2 ∷ [])
+    -- P6
+    ∷ onK (write 0 1 ∷ write 1 514 ∷ firstMatch 513 ∷ firstMatch 514 ∷ []) (held empty ∷ held empty ∷ none 1 0 ∷ at 1 1 0 ∷ [])
+    -- P7
+    ∷ onK (write 0 1 ∷ write 0 513 ∷ firstMatch 513 ∷ firstMatch 1 ∷ []) (held empty ∷ held (pattern 1) ∷ at 0 1 0 ∷ none 1 0 ∷ [])
+    -- P8
+    ∷ cleared-first deep (unclear 65 4) (write 64 1 ∷ firstMatch 1 ∷ []) (held empty ∷ at 64 2 0 ∷ [])
+    -- P9
+    ∷ onS (erase 5 ∷ []) (held empty ∷ [])
+    -- P10
     ∷ record { geometry = S; tables = damaged; calls = firstMatch 1 ∷ []; answers = refused 6 ∷ [] }
+    ∷ []
+
+-- ---- one call on tables that no history need have left, and all that it leaves
+
+pub record Trial : Type 0 where
+  pub geometry : Geometry
+  pub tables : Tables
+  pub call : Call (List ℕ)
+  pub leaves : Outcome
+
+-- The words of an empty and of a full store are written out here, so that the number for empty is pinned.
+abbrev pub E : ℕ
+E = 4294967295
+
+-- A refusal: the number alone, and everything as it was lent.
+abbrev pub refuses : Geometry → (store indicators : List ℕ) → Call (List ℕ) → (number : ℕ) → (lent : List ℕ) → Trial
+refuses g st ind c n m = record {
+  geometry = g;
+  tables = record { store = st; indicators = ind };
+  call = c;
+  leaves = record { answer = refused n; tables = record { store = st; indicators = ind }; matches = m };
+}
+
+-- An answer that writes no table.
+abbrev pub answers-with : Geometry → (store indicators : List ℕ) → Call (List ℕ) → Answer → (matches : List ℕ) → Trial
+answers-with g st ind c x m = record {
+  geometry = g;
+  tables = record { store = st; indicators = ind };
+  call = c;
+  leaves = record { answer = x; tables = record { store = st; indicators = ind }; matches = m };
+}
+
+-- An answer that leaves other tables.
+abbrev pub writes : Geometry → (store indicators : List ℕ) → Call (List ℕ) → Answer → (store′ indicators′ : List ℕ) → Trial
+writes g st ind c x st′ ind′ = record {
+  geometry = g;
+  tables = record { store = st; indicators = ind };
+  call = c;
+  leaves = record { answer = x; tables = record { store = st′; indicators = ind′ }; matches = [] };
+}
+
+-- S with one address in a set, of the kinds 0 and 2; and a geometry of no kind.
+abbrev pub alone : (kind : ℕ) → Geometry
+alone k = record { kind = k; depth = 4; «pattern_width» = 1; «set_width» = 1 }
+
+abbrev pub noKind : Geometry
+noKind = record { kind = 3; depth = 8; «pattern_width» = 2; «set_width» = 2 }
+
+abbrev pub stored : (a b c d : ℕ) → List ℕ
+stored a b c d = a ∷ b ∷ c ∷ d ∷ E ∷ E ∷ E ∷ E ∷ []
+
+abbrev pub zeros : List ℕ
+zeros = 0 ∷ 0 ∷ 0 ∷ 0 ∷ []
+
+-- S's row of pattern 1 with the given word.
+abbrev pub row1 : ℕ → List ℕ
+row1 w = 0 ∷ w ∷ 0 ∷ 0 ∷ []
+
+unfoldable pub trials : List Trial
+trials =
+    -- 1 before 2, 2 for each table, 2 before 3
+    refuses noKind [] [] clear 1 []
+    ∷ refuses S (E ∷ []) zeros clear 2 []
+    ∷ refuses S (stored E E E E) (0 ∷ []) (write 8 0) 2 []
+    -- 3 before 4, and both limits
+    ∷ refuses S (stored E E E E) zeros (write 8 4) 3 []
+    ∷ refuses S (stored E E E E) zeros (write 7 4) 4 []
+    ∷ refuses S (stored E E E E) zeros (erase 8) 3 []
+    ∷ refuses S (stored E E E E) zeros (firstMatch 4) 4 []
+    ∷ writes S (stored E E E E) zeros (write 0 3) (held empty) (stored 3 E E E) (0 ∷ 0 ∷ 0 ∷ 1 ∷ [])
+    -- a match word of wrong length is 2, before 4; it is left as lent
+    ∷ refuses S (stored E E E E) zeros (allMatch 4 []) 2 []
+    ∷ refuses S (stored E E E E) zeros (allMatch 3 (9 ∷ 9 ∷ [])) 2 (9 ∷ 9 ∷ [])
+    ∷ refuses S (stored E E E E) zeros (allMatch 4 (9 ∷ [])) 4 (9 ∷ [])
+    -- an entry that is no pattern: 5, after 4, and at its own address alone
+    ∷ refuses S (stored 4 E E E) zeros (read 0) 5 []
+    ∷ refuses S (stored 4 E E E) zeros (erase 0) 5 []
+    ∷ refuses S (stored 4 E E E) zeros (write 0 1) 5 []
+    ∷ refuses S (stored 4 E E E) zeros (write 0 4) 4 []
+    ∷ answers-with S (stored 4 2 E E) zeros (read 1) (held (pattern 2)) []
+    ∷ writes S (stored 4 4 E E) zeros (write 2 1) (held empty) (stored 4 4 1 E) (row1 2)
+    -- a false set behind a true one: first-match does not look at it, all-match does
+    ∷ answers-with S (stored E 1 E E) (row1 3) (firstMatch 1) (at 1 1 2) []
+    ∷ refuses S (stored E 1 E E) (row1 3) (allMatch 1 (9 ∷ [])) 6 (9 ∷ [])
+    ∷ refuses S (stored E E E 1) (row1 3) (firstMatch 1) 6 []
+    -- a padding bit alone indicates nothing, and a write leaves it
+    ∷ answers-with S (stored E E E E) (row1 16) (firstMatch 1) (none 1 0) []
+    ∷ answers-with S (stored E E E E) (row1 16) (allMatch 1 (9 ∷ [])) (matched (0 ∷ []) 0) (0 ∷ [])
+    ∷ writes S (stored E E E E) (row1 16) (write 0 1) (held empty) (stored 1 E E E) (row1 17)
+    -- erase while a neighbour holds the pattern, and then not; a stale bit of another set stays
+    ∷ writes S (stored E E 1 1) (row1 3) (erase 2) (held (pattern 1)) (stored E E E 1) (row1 3)
+    ∷ writes S (stored E E E 1) (row1 3) (erase 3) (held (pattern 1)) (stored E E E E) (row1 1)
+    -- kind 0 goes by its indicators alone; kind 2 with one address in a set compares
+    ∷ answers-with (alone 0) (E ∷ E ∷ E ∷ E ∷ []) (0 ∷ 4 ∷ []) (firstMatch 1) (at 2 1 0) []
+    ∷ answers-with (alone 0) (E ∷ E ∷ E ∷ E ∷ []) (0 ∷ 4 ∷ []) (allMatch 1 (9 ∷ [])) (matched (4 ∷ []) 1) (4 ∷ [])
+    ∷ answers-with (alone 2) (E ∷ E ∷ 1 ∷ E ∷ []) (0 ∷ 4 ∷ []) (firstMatch 1) (at 2 1 1) []
+    ∷ refuses (alone 2) (E ∷ E ∷ E ∷ E ∷ []) (0 ∷ 4 ∷ []) (firstMatch 1) 6 []
     ∷ []

@@ -19,7 +19,7 @@ sets g = g .depth / g .«set_width»
 unfoldable pub rowWords : Geometry → ℕ
 rowWords g = roundedUp (sets g) 64
 
--- The words of a match word: a bit for each address.
+-- The length of the match word in words: a bit for each address.
 unfoldable pub matchWords : Geometry → ℕ
 matchWords g = roundedUp (g .depth) 64
 

@@ -136,7 +136,8 @@ module _ (g : Geometry) (f : Facts g) (es : Array) (sound : Sound g es) where
         formula false true false = refl
         formula false false O = refl
 
-        away : (c : Bool) → ltb b 64 ≡ c → belongs (setOf g a) j b ≡ false → (c && covered g (entryAt es) r (64 * j + b)) ≡ (c && covered g (entryAt next) r (64 * j + b))
+        away : (c : Bool) → ltb b 64 ≡ c → belongs (setOf g a) j b ≡ false
+            → (c && covered g (entryAt es) r (64 * j + b)) ≡ (c && covered g (entryAt next) r (64 * j + b))
         away true small h =
             let lt = ltb-true b 64 small in
             apart r (64 * j + b)

@@ -34,7 +34,8 @@ pub entry-passes : (g : Geometry) (t : Tables) (a : ℕ) → (badEntry g t a ≡
 unfolding badEntry
 entry-passes g t a = (λ h. there (eqb (storeWord t a) emptyWord) refl (not-false _ h), back)
   where
-    there : (b : Bool) → eqb (storeWord t a) emptyWord ≡ b → (b || ltb (storeWord t a) (patterns g)) ≡ true → (storeWord t a ≡ 4294967295) ⊎ (storeWord t a < patterns g)
+    there : (b : Bool) → eqb (storeWord t a) emptyWord ≡ b → (b || ltb (storeWord t a) (patterns g)) ≡ true
+        → (storeWord t a ≡ 4294967295) ⊎ (storeWord t a < patterns g)
     there true e h = inl (eqb-true _ _ e)
     there false e h = inr (ltb-true _ _ h)
 

@@ -40,7 +40,8 @@ word-fits g w p = go (ltb w (patterns g)) refl
     go false e h = absurd (let z : _≡_ {A = ℕ} 0 1 = cc in omega arith)
 
 -- "Slice k starts at word R × 512 × k; its row r begins R × r words later."
-pub stage-starts : (g : Geometry) (ind : List ℕ) (p k j b : ℕ) → cell g ind (rowOf g p k) j b ≡ bit (getD ind (rowWords g * 512 * k + rowWords g * stage g k p + j) 0) b
+pub stage-starts : (g : Geometry) (ind : List ℕ) (p k j b : ℕ)
+    → cell g ind (rowOf g p k) j b ≡ bit (getD ind (rowWords g * 512 * k + rowWords g * stage g k p + j) 0) b
 unfolding rowOf
 stage-starts g ind p k j b = ap (λ m. bit (getD ind m 0) b) (omega arith)
 
@@ -139,7 +140,8 @@ module _ (g : Geometry) (ok : valid g ≡ true) (kind : eqb (g .kind) cascaded �
       alone : othersCover g t a (512 * k + x) ≡ false
       alone = any-false (g .«set_width») _ (λ o l. itself o l)
         where
-          itself : (o : ℕ) → o < g .«set_width» → (not (eqb (addressOf g (setOf g a) o) a) && covers g (storeEntry g t (addressOf g (setOf g a) o)) (512 * k + x)) ≡ false
+          itself : (o : ℕ) → o < g .«set_width»
+              → (not (eqb (addressOf g (setOf g a) o) a) && covers g (storeEntry g t (addressOf g (setOf g a) o)) (512 * k + x)) ≡ false
           itself o l =
               let one : g .«set_width» ≡ 1 = facts g ok .alone (rw (eqb-true (g .kind) cascaded kind)) in
               let only : o ≡ offsetOf g a = omega (arith, offset-lt g (facts g ok) a) in

@@ -99,7 +99,8 @@ unfolding refusals
 passed-valid g t c p = not-false (valid g) (p .0)
 
 -- both tables have their lengths
-pub passed-lengths : (g : Geometry) (t : Tables) (c : Call (List ℕ)) → Passed (refusals g t c) → (length (t .store) ≡ g .depth) × (length (t .indicators) ≡ indicatorWords g)
+pub passed-lengths : (g : Geometry) (t : Tables) (c : Call (List ℕ)) → Passed (refusals g t c)
+    → (length (t .store) ≡ g .depth) × (length (t .indicators) ≡ indicatorWords g)
 unfolding refusals
 passed-lengths g t c p = lengths-pass g t .0 (first-half (badLengths g t) (badMatches g c) (p .1 .0))
   where
@@ -129,11 +130,13 @@ matches-after g t c = go c (firstRefusal (refusals g t c))
     go (allMatch key m) Option.none = refl
 
 -- "a refused all-match leaves that match word as lent"
-pub refused-lends : (g : Geometry) (t : Tables) (key : ℕ) (m : List ℕ) (n : ℕ) → step g t (allMatch key m) .answer ≡ refused n → step g t (allMatch key m) .matches ≡ m
+pub refused-lends : (g : Geometry) (t : Tables) (key : ℕ) (m : List ℕ) (n : ℕ) → step g t (allMatch key m) .answer ≡ refused n
+    → step g t (allMatch key m) .matches ≡ m
 unfolding lent matchesAfter
 refused-lends g t key m n e = matches-after g t (allMatch key m) ∙ rw e
 
-pub refused-keeps : (g : Geometry) (t : Tables) (c : Call (List ℕ)) (n : ℕ) → step g t c .answer ≡ refused n → (step g t c .tables ≡ t) × (step g t c .matches ≡ lent c)
+pub refused-keeps : (g : Geometry) (t : Tables) (c : Call (List ℕ)) (n : ℕ) → step g t c .answer ≡ refused n
+    → (step g t c .tables ≡ t) × (step g t c .matches ≡ lent c)
 unfolding step outcome matchesAfter
 refused-keeps g t c n e = let stopped = first-refusal (refusals g t c) n (given-exactly g t c n .0 e) in (rw stopped, rw stopped)
 

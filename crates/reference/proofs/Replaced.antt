@@ -36,7 +36,8 @@ covers-lt g f (pattern p) r h =
     let w = any-witness (stages g) (λ k. eqb r (rowOf g p k)) (sym (member-tabulate r (stages g) (rowOf g p)) ∙ h) in
     rw (eqb-true r (rowOf g p (w .0)) (w .2)) (row-lt g f (w .0) (stage g (w .0) p) (w .1) (stage-lt g f (w .0) p))
 
-pub replaced-bits : (g : Geometry) → Facts g → (t : Tables) (a : ℕ) (e : Entry) → a < g .depth → length (t .store) ≡ g .depth → length (t .indicators) ≡ indicatorWords g
+pub replaced-bits : (g : Geometry) → Facts g → (t : Tables) (a : ℕ) (e : Entry) → a < g .depth → length (t .store) ≡ g .depth
+    → length (t .indicators) ≡ indicatorWords g
     → EveryBit g t (replaced g t a e) a e
 unfolding replaced covers released
 replaced-bits g f t a e ha stored indicated = record {
@@ -57,7 +58,8 @@ replaced-bits g f t a e ha stored indicated = record {
     inside : s < sets g
     inside = set-lt g f a ha
 
-    given-up : (r : ℕ) → member r (released g t a (entryRows g e)) ≡ (member r (entryRows g (storeEntry g t a)) && (not (member r (entryRows g e)) && not (othersCover g t a r)))
+    given-up : (r : ℕ)
+        → member r (released g t a (entryRows g e)) ≡ (member r (entryRows g (storeEntry g t a)) && (not (member r (entryRows g e)) && not (othersCover g t a r)))
     given-up r = member-keep r (λ r. not (member r (entryRows g e)) && not (othersCover g t a r)) (entryRows g (storeEntry g t a))
 
     given-up-lt : (r : ℕ) → member r (released g t a (entryRows g e)) ≡ true → r < rows g
@@ -111,7 +113,8 @@ module _ (g : Geometry) (t : Tables) (c : Call (List ℕ)) (a : ℕ) (e : Entry)
 pub write-passed : (g : Geometry) (t : Tables) (a p : ℕ) (e : Entry) → step g t (write a p) .answer ≡ held e → Passed (refusals g t (write a p))
 write-passed g t a p e h = not-refused g t (write a p) (held e) refl h
 
-pub write-bits : (g : Geometry) (t : Tables) (a p : ℕ) (e : Entry) → step g t (write a p) .answer ≡ held e → EveryBit g t (step g t (write a p) .tables) a (pattern p)
+pub write-bits : (g : Geometry) (t : Tables) (a p : ℕ) (e : Entry) → step g t (write a p) .answer ≡ held e
+    → EveryBit g t (step g t (write a p) .tables) a (pattern p)
 unfolding refusals ownRefusals accepted
 write-bits g t a p e h = let passed = write-passed g t a p e h in puts-bits g t (write a p) a (pattern p) passed (passed .1 .1 .0) refl
 

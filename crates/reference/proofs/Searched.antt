@@ -44,7 +44,8 @@ module _ (g : Geometry) (t : Tables) (j : ℕ) where
       let q = joined-all m b rs (p .1) in
       (q .0, λ r e. go r (eqb r x) refl e (p .0) (q .1 r))
     where
-      go : (r : ℕ) (c : Bool) → eqb r x ≡ c → (c || member r rs) ≡ true → cell g (t .indicators) x j b ≡ true → (member r rs ≡ true → cell g (t .indicators) r j b ≡ true) → cell g (t .indicators) r j b ≡ true
+      go : (r : ℕ) (c : Bool) → eqb r x ≡ c → (c || member r rs) ≡ true → cell g (t .indicators) x j b ≡ true
+          → (member r rs ≡ true → cell g (t .indicators) r j b ≡ true) → cell g (t .indicators) r j b ≡ true
       go r true e h first rest = rw (eqb-true r x e) first
       go r false e h first rest = rest h
 
@@ -147,7 +148,8 @@ words-missed g f t key w e =
     (λ s l. row-nowhere (rowWords g) (joined g t key) (p .0) s (omega (arith, sets-most g f)), p .1)
 
 -- the lowest set bit of the word found is the first indicated set, and the words up to it were looked at
-words-found : (g : Geometry) (t : Tables) (key j w : ℕ) → seekWord g t key ≡ found j w → First (sets g) (indicated g t key) (lowestSet g t key j) × (w ≡ lowestSet g t key j / 64 + 1)
+words-found : (g : Geometry) (t : Tables) (key j w : ℕ) → seekWord g t key ≡ found j w
+    → First (sets g) (indicated g t key) (lowestSet g t key j) × (w ≡ lowestSet g t key j / 64 + 1)
 unfolding seekWord indicated lowestSet
 words-found g t key j w e =
     let p = seek-found (rowWords g) _ j w e in

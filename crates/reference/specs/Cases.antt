@@ -76,7 +76,7 @@ pub record Trial : Type 0 where
   pub call : Call (List ℕ)
   pub leaves : Outcome
 
--- The words of an empty and of a full store are written out here, so that the number for empty is pinned.
+-- The word of an empty address is written out here, so that its number is pinned.
 abbrev pub E : ℕ
 E = 4294967295
 
@@ -151,6 +151,9 @@ trials =
     ∷ answers-with S (stored E 1 E E) (row1 3) (firstMatch 1) (at 1 1 2) []
     ∷ refuses S (stored E 1 E E) (row1 3) (allMatch 1 (9 ∷ [])) 6 (9 ∷ [])
     ∷ refuses S (stored E E E 1) (row1 3) (firstMatch 1) 6 []
+    -- 4 before 6: the row of 4 would be that of 0, whose set 0 is false
+    ∷ refuses S (stored E E E E) (1 ∷ 0 ∷ 0 ∷ 0 ∷ []) (firstMatch 4) 4 []
+    ∷ refuses S (stored E E E E) (1 ∷ 0 ∷ 0 ∷ 0 ∷ []) (allMatch 4 (9 ∷ [])) 4 (9 ∷ [])
     -- a padding bit alone indicates nothing, and a write leaves it
     ∷ answers-with S (stored E E E E) (row1 16) (firstMatch 1) (none 1 0) []
     ∷ answers-with S (stored E E E E) (row1 16) (allMatch 1 (9 ∷ [])) (matched (0 ∷ []) 0) (0 ∷ [])

@@ -1,13 +1,13 @@
 pub mod Limits
+pub mod Refused
 pub mod Cells
 pub mod Replaced
-pub mod Covering
 pub mod Searched
+pub mod Covering
 pub mod Indicated
 pub mod Mirrored
 pub mod Image
 pub mod Lowest
-pub mod Refused
 pub mod Emptied
 pub mod Agreement
 pub mod History

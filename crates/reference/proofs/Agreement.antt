@@ -20,7 +20,7 @@ use Rattle.geometry.specs.declared.Geometry.{Geometry}
 use Rattle.geometry.specs.Valid.{valid}
 use Rattle.geometry.specs.Sizes.{patterns, matchWords}
 use Rattle.geometry.proofs.Facts.{Facts, facts}
-use Rattle.reference.specs.Entry.{Entry, empty, pattern, wordOf, holds}
+use Rattle.reference.specs.Entry.{Entry, empty, pattern, Fits, wordOf, holds}
 use Rattle.reference.specs.Calls.{Call, clear, write, erase, read, firstMatch, allMatch, shape, held, matched}
 use Rattle.reference.specs.Refusals.{Refusal, _given-when_, firstRefusal, Passed, badAddress, badPattern}
 use Rattle.reference.specs.Array as Array
@@ -31,6 +31,7 @@ use Rattle.reference.specs.Search.{firstFound, answerOf, taken, takenWor
 use Rattle.reference.specs.Statements.{Mirrors, stores, FirstIs, lowest, absent}
 use Rattle.reference.specs.Steps.{badMatches, badEntry, ownRefusals, refusals, Outcome, accepted, outcome, step}
 use Rattle.reference.proofs.Limits.{lengths-pass, address-passes, pattern-passes, entry-passes}
+use Rattle.reference.proofs.Entries.{empty-fits, pattern-fits}
 use Rattle.reference.proofs.Covering.{holds-word}
 use Rattle.reference.proofs.Mirrored.{first-is, first-not-false, none-false, taken-is}
 use Rattle.reference.proofs.Searched.{first-any, taken-counted}
@@ -79,7 +80,7 @@ module _ (g : Geometry) (ok : valid g ≡ true) (es : Array) (sound : Sound g es
   unfolding wordOf
   no-bad-entry a = entry-passes g (tablesOf g es) a .1 (rw (store-word g f es sound a) (go (entryAt es a) (sound .fits a)))
     where
-      go : (e : Entry) → ((p : ℕ) → e ≡ pattern p → p < patterns g) → (wordOf e ≡ 4294967295) ⊎ (wordOf e < patterns g)
+      go : (e : Entry) → Fits g e → (wordOf e ≡ 4294967295) ⊎ (wordOf e < patterns g)
       go empty h = inl refl
       go (pattern p) h = inr (h p refl)
 
@@ -132,7 +133,7 @@ module _ (g : Geometry) (ok : valid g ≡ true) (es : Array) (sound : Sound g es
   -- ---- every call agrees
 
   -- another entry of the geometry keeps the array one of it
-  set-sound : (a : ℕ) → a < g .depth → (e : Entry) → ((p : ℕ) → e ≡ pattern p → p < patterns g) → Sound g (set es a e)
+  set-sound : (a : ℕ) → a < g .depth → (e : Entry) → Fits g e → Sound g (set es a e)
   set-sound a inside e h = record { long = length-set es a e ∙ sound .long; fits = λ b p. go b p (eqb b a) refl }
     where
       go : (b p : ℕ) (c : Bool) → eqb b a ≡ c → entryAt (set es a e) b ≡ pattern p → p < patterns g
@@ -148,14 +149,14 @@ module _ (g : Geometry) (ok : valid g ≡ true) (es : Array) (sound : Sound g es
       record {
         answer = ap held (store-entry g f es sound a);
         tables = replaced-image g f es sound a inside (pattern q);
-        sound = set-sound a inside (pattern q) (λ r e. let same : q ≡ r = cc in omega arith);
+        sound = set-sound a inside (pattern q) (pattern-fits g q small);
       }
   accepted-agrees (erase a) p =
       let inside : a < g .depth = address-passes g a .0 (p .0) in
       record {
         answer = ap held (store-entry g f es sound a);
         tables = replaced-image g f es sound a inside empty;
-        sound = set-sound a inside empty (λ r e. absurd (let z : _≡_ {A = ℕ} 0 1 = cc in omega arith));
+        sound = set-sound a inside empty (empty-fits g);
       }
   accepted-agrees (read a) p = record { answer = ap held (store-entry g f es sound a); tables = refl; sound = sound }
   accepted-agrees (firstMatch key) p = record { answer = first-agrees key (pattern-passes g key .0 (p .0)); tables = refl; sound = sound }

@@ -3,7 +3,6 @@ use Prim.Native.Nat.{ℕ, zero, suc, _+_, _*_, _/_, _%_}
 use mathlib.Core.Path.{_≡_, refl, sym, ap, _∙_}
 use mathlib.Core.Bool.{Bool, true, false, and-false}
 use mathlib.Core.List.{List, _∷_, map}
-use native.Mathlib.Omega.{arith}
 use lib.Dec.{ltb}
 use lib.ListN.{replicate, length-replicate, getD-replicate, List·getD-eq-default}
 use borrow.Author.Tests.{ltb-true, ltb-false}
@@ -16,6 +15,7 @@ use Rattle.geometry.specs.Stages.{indicatorWords}
 use Rattle.reference.specs.Entry.{empty, emptyWord, wordOf}
 use Rattle.reference.specs.Array.{emptied, entryAt, Sound}
 use Rattle.reference.specs.Image.{entryRows, covers, covered, image, tablesOf}
+use Rattle.reference.proofs.Entries.{empty-fits}
 use Rattle.reference.specs.Steps.{clearTables}
 
 entry-of-emptied : (g : Geometry) (a : ℕ) → entryAt (emptied g) a ≡ empty
@@ -30,7 +30,7 @@ pub emptied-sound : (g : Geometry) → Sound g (emptied g)
 unfolding emptied
 emptied-sound g = record {
   long = length-replicate (g .depth) empty;
-  fits = λ a p e. absurd (let z : _≡_ {A = ℕ} 0 1 = cc (entry-of-emptied g a) in omega arith);
+  fits = λ a. rw (entry-of-emptied g a) (empty-fits g);
 }
 
 map-replicate : (n : ℕ) → replicate n emptyWord ≡ map wordOf (replicate n empty)

@@ -8,22 +8,23 @@ use native.Mathlib.Omega.{arith}
 use lib.Dec.{eqb, ltb}
 use lib.ListN.{length, getD, set, List·getD-map}
 use lib.Seq.{getD-set-same, getD-set-other}
-use borrow.Author.Tests.{ltb-true, lt-ltb, le-ltb, eqb-true, eqb-false, eq-eqb}
+use borrow.Author.Tests.{ltb-true, lt-ltb, eqb-true, eqb-false, eq-eqb}
 use Rattle.words.specs.Rules.{any}
 use Rattle.words.specs.Bits.{bit}
 use Rattle.words.proofs.Rules.{both-ways, any-ext, any-split, length-tabulate, getD-tabulate, list-tabulate}
 use Rattle.words.proofs.Bits.{bits-equal, bit-word-all}
 use Rattle.geometry.specs.declared.Geometry.{Geometry}
-use Rattle.geometry.specs.Sizes.{patterns, rowWords, setOf, offsetOf, addressOf}
+use Rattle.geometry.specs.Sizes.{rowWords, setOf, offsetOf, addressOf}
 use Rattle.geometry.specs.Stages.{rows, indicatorWords}
-use Rattle.geometry.proofs.Facts.{Facts, patterns-most}
+use Rattle.geometry.proofs.Facts.{Facts}
 use Rattle.geometry.proofs.Places.{offset-lt, address-of, set-of, offset-of, place-lt, row-of-place, word-of-place, place-of, row-lt, word-lt, word-lt-row}
-use Rattle.reference.specs.Entry.{Entry, empty, pattern, emptyWord, wordOf, entryOf}
+use Rattle.reference.specs.Entry.{Entry, empty, wordOf}
 use Rattle.reference.specs.Array.{Array, entryAt, Sound}
 use Rattle.reference.specs.Tables.{storeWord, storeEntry, cell, belongs}
 use Rattle.reference.specs.Image.{covers, covered, image, tablesOf}
 use Rattle.reference.specs.Statements.{Mirrors, EveryBit}
 use Rattle.reference.specs.Update.{othersCover, replaced}
+use Rattle.reference.proofs.Entries.{entry-word}
 use Rattle.reference.proofs.Replaced.{replaced-bits}
 
 length-map : (es : Array) → length (map wordOf es) ≡ length es
@@ -34,12 +35,6 @@ map-set : (es : Array) (a : ℕ) (e : Entry) → set (map wordOf es) a (wordOf e
 map-set [] a e = refl
 map-set (x ∷ es) zero e = refl
 map-set (x ∷ es) (suc a) e = ap (λ (l : List ℕ). wordOf x ∷ l) (map-set es a e)
-
--- an entry of the geometry is what its word holds
-entry-word : (g : Geometry) → Facts g → (e : Entry) → ((p : ℕ) → e ≡ pattern p → p < patterns g) → entryOf g (wordOf e) ≡ e
-unfolding entryOf wordOf
-entry-word g f empty h = rw (le-ltb emptyWord (patterns g) (omega (arith, patterns-most g f)))
-entry-word g f (pattern p) h = rw (lt-ltb p (patterns g) (h p refl))
 
 module _ (g : Geometry) (f : Facts g) (es : Array) (sound : Sound g es) where
   pub store-word : (a : ℕ) → storeWord (tablesOf g es) a ≡ wordOf (entryAt es a)

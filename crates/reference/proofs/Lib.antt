@@ -1,4 +1,5 @@
 pub mod Limits
+pub mod Entries
 pub mod Refused
 pub mod Cells
 pub mod Replaced

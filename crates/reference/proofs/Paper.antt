@@ -2,12 +2,12 @@
 -- pattern, in kind 1 it is a value of a stage.
 use Prim.Native.Nat.{ℕ, _+_, _*_, _/_, _%_, _^_, _<_, _≤_}
 use mathlib.Core.Path.{_≡_, refl, sym, ap, _∙_}
-use mathlib.Core.Bool.{Bool, true, false, cond, not, _&&_, and-true, and-false, or-false}
+use mathlib.Core.Bool.{true, false, not, _&&_, and-true, and-false, or-false}
 use mathlib.Core.List.{List, [], _∷_}
 use native.Mathlib.Omega.{arith}
 use lib.Dec.{eqb, ltb}
 use lib.ListN.{getD, List·getD-eq-default}
-use borrow.Author.Tests.{ltb-true, lt-ltb, eqb-true, eq-eqb}
+use borrow.Author.Tests.{lt-ltb, eqb-true, eq-eqb}
 use Rattle.words.specs.Rules.{any, member}
 use Rattle.words.specs.Bits.{bit}
 use Rattle.words.proofs.Rules.{both-ways, any-ext, any-false}
@@ -18,7 +18,7 @@ use Rattle.geometry.specs.Stages.{stages, stageWidth, stage, rowOf, rowsOf, row
 use Rattle.geometry.proofs.Facts.{Facts, facts}
 use Rattle.geometry.proofs.Places.{offset-lt, address-past, address-of, word-lt}
 use Rattle.geometry.proofs.Stages.{row-lt, row-among, one-stage-kind, one-row, one-stage}
-use Rattle.reference.specs.Entry.{Entry, empty, pattern, entryOf, holds}
+use Rattle.reference.specs.Entry.{Entry, empty, pattern, Fits, holds}
 use Rattle.reference.specs.Calls.{write, erase, held}
 use Rattle.reference.specs.Array.{Array, entryAt, Sound}
 use Rattle.reference.specs.Tables.{Tables, storeWord, storeEntry, cell}
@@ -27,17 +27,9 @@ use Rattle.reference.specs.Update.{othersCover}
 use Rattle.reference.specs.Steps.{ownRefusals, refusals, step}
 use Rattle.reference.specs.Statements.{EveryBit, holdsStage, othersHold, PatternBits, StageBits}
 use Rattle.reference.proofs.Limits.{pattern-passes}
-use Rattle.reference.proofs.Replaced.{covers-lt, write-passed, write-bits, erase-bits}
+use Rattle.reference.proofs.Replaced.{covers-lt, held-passed, write-bits, erase-bits}
+use Rattle.reference.proofs.Entries.{empty-fits, pattern-fits, word-fits}
 use Rattle.reference.proofs.Image.{image-cell}
-
--- what a word of the store holds is a pattern of the geometry
-word-fits : (g : Geometry) (w p : ℕ) → entryOf g w ≡ pattern p → p < patterns g
-unfolding entryOf
-word-fits g w p = go (ltb w (patterns g)) refl
-  where
-    go : (b : Bool) → ltb w (patterns g) ≡ b → cond b (pattern w) empty ≡ pattern p → p < patterns g
-    go true e h = let same : w ≡ p = cc in omega (arith, ltb-true w (patterns g) e)
-    go false e h = absurd (let z : _≡_ {A = ℕ} 0 1 = cc in omega arith)
 
 -- "Slice k starts at word R × 512 × k; its row r begins R × r words later."
 pub stage-starts : (g : Geometry) (ind : List ℕ) (p k j b : ℕ)
@@ -76,7 +68,7 @@ module _ (g : Geometry) (ok : valid g ≡ true) (kind : eqb (g .kind) cascaded �
   pub pattern-starts : (ind : List ℕ) (p j b : ℕ) → p < patterns g → cell g ind (rowOf g p 0) j b ≡ bit (getD ind (rowWords g * p + j) 0) b
   pattern-starts ind p j b h = ap (λ r. cell g ind r j b) (one-row g (facts g ok) p (one-stage-kind g (facts g ok) kind) h)
 
-  covers-pattern : (e : Entry) → ((p : ℕ) → e ≡ pattern p → p < patterns g) → (r : ℕ) → covers g e r ≡ holds e r
+  covers-pattern : (e : Entry) → Fits g e → (r : ℕ) → covers g e r ≡ holds e r
   unfolding covers entryRows holds member
   covers-pattern empty fits r = refl
   covers-pattern (pattern p) fits r =
@@ -92,9 +84,9 @@ module _ (g : Geometry) (ok : valid g ≡ true) (kind : eqb (g .kind) cascaded �
       ∙ any-ext (g .«set_width») _ _ (λ o l. covers-pattern (entryAt es (addressOf g s o)) (sound .fits (addressOf g s o)) p)
     where
       inside : p < rows g
-      inside = covers-lt g (facts g ok) (pattern p) p (covers-pattern (pattern p) (λ q e. let same : p ≡ q = cc in omega arith) p ∙ eq-eqb p p refl)
+      inside = covers-lt g (facts g ok) (pattern p) p (covers-pattern (pattern p) (pattern-fits g p hp) p ∙ eq-eqb p p refl)
 
-  pattern-bits : (t u : Tables) (a : ℕ) (e : Entry) → ((p : ℕ) → e ≡ pattern p → p < patterns g) → EveryBit g t u a e → PatternBits g t u a e
+  pattern-bits : (t u : Tables) (a : ℕ) (e : Entry) → Fits g e → EveryBit g t u a e → PatternBits g t u a e
   unfolding othersCover othersHold
   pattern-bits t u a e fits every r j b hj =
       every .bits r j b hj
@@ -107,13 +99,13 @@ module _ (g : Geometry) (ok : valid g ≡ true) (kind : eqb (g .kind) cascaded �
 
   pub write-patterns : (t : Tables) (a p : ℕ) (e : Entry) → step g t (write a p) .answer ≡ held e → PatternBits g t (step g t (write a p) .tables) a (pattern p)
   unfolding refusals ownRefusals
-  write-patterns t a p e h = pattern-bits t _ a (pattern p) (λ q same. let is : p ≡ q = cc in omega (arith, small)) (write-bits g t a p e h)
+  write-patterns t a p e h = pattern-bits t _ a (pattern p) (pattern-fits g p small) (write-bits g t a p e h)
     where
       small : p < patterns g
-      small = pattern-passes g p .0 (write-passed g t a p e h .1 .1 .1 .0)
+      small = pattern-passes g p .0 (held-passed g t (write a p) e h .1 .1 .1 .0)
 
   pub erase-patterns : (t : Tables) (a : ℕ) (e : Entry) → step g t (erase a) .answer ≡ held e → PatternBits g t (step g t (erase a) .tables) a empty
-  erase-patterns t a e h = pattern-bits t _ a empty (λ q same. absurd (let z : _≡_ {A = ℕ} 0 1 = cc in omega arith)) (erase-bits g t a e h)
+  erase-patterns t a e h = pattern-bits t _ a empty (empty-fits g) (erase-bits g t a e h)
 
 -- ---- kind 1
 

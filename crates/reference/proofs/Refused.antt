@@ -20,14 +20,14 @@ use Rattle.reference.specs.Search.{Found, hit, nothing, falseSet, isFals
 use Rattle.reference.proofs.Limits.{lengths-pass}
 use Rattle.reference.specs.Steps.{badLengths, badMatches, ownRefusals, refusals, accepted, outcome, step}
 
--- the table is passed exactly when it is passed row by row
+-- where no number is given, every row is passed
 pub passes : (rows : List Refusal) → firstRefusal rows ≡ Option.none → Passed rows
 unfolding firstRefusal
 passes [] e = tt
 passes ((n given-when true) ∷ rest) e = absurd (let z : _≡_ {A = ℕ} 0 1 = cc in omega arith)
 passes ((n given-when false) ∷ rest) e = (refl, passes rest e)
 
--- what lies below rows that pass decides
+-- below rows that are passed, the rest decides
 below-passed : (above rest : List Refusal) → Passed above → firstRefusal (above ++ rest) ≡ firstRefusal rest
 unfolding firstRefusal
 below-passed [] rest p = refl
@@ -137,7 +137,7 @@ refused-lends g t key m n e = matches-after g t (allMatch key m) ∙ rw e
 
 pub refused-keeps : (g : Geometry) (t : Tables) (c : Call (List ℕ)) (n : ℕ) → step g t c .answer ≡ refused n
     → (step g t c .tables ≡ t) × (step g t c .matches ≡ lent c)
-unfolding step outcome matchesAfter
+unfolding step outcome
 refused-keeps g t c n e = let stopped = first-refusal (refusals g t c) n (given-exactly g t c n .0 e) in (rw stopped, rw stopped)
 
 -- "Read and the matches write no table."

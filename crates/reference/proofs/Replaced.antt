@@ -79,6 +79,10 @@ replaced-bits g f t a e ha stored indicated = record {
 
 -- ---- accepted calls
 
+-- A call that gives an entry passed the table.
+pub held-passed : (g : Geometry) (t : Tables) (c : Call (List ℕ)) (e : Entry) → step g t c .answer ≡ held e → Passed (refusals g t c)
+held-passed g t c e h = not-refused g t c (held e) refl h
+
 -- A call that passed the table and gives the entry at address a: the store's word there tells it.
 gives : (g : Geometry) (t : Tables) (c : Call (List ℕ)) (a : ℕ) (e : Entry) → Passed (refusals g t c) → badEntry g t a ≡ false
     → accepted g t c .answer ≡ held (storeEntry g t a) → step g t c .answer ≡ held e → (e ≡ storeEntry g t a) × (wordOf e ≡ storeWord t a)
@@ -90,15 +94,15 @@ gives g t c a e passed good answer h =
 -- "gives the former entry", "gives the entry"
 pub write-gives : (g : Geometry) (t : Tables) (a p : ℕ) (e : Entry) → step g t (write a p) .answer ≡ held e → (e ≡ storeEntry g t a) × (wordOf e ≡ storeWord t a)
 unfolding refusals ownRefusals accepted
-write-gives g t a p e h = let passed = not-refused g t (write a p) (held e) refl h in gives g t (write a p) a e passed (passed .1 .1 .1 .1 .0) refl h
+write-gives g t a p e h = let passed = held-passed g t (write a p) e h in gives g t (write a p) a e passed (passed .1 .1 .1 .1 .0) refl h
 
 pub erase-gives : (g : Geometry) (t : Tables) (a : ℕ) (e : Entry) → step g t (erase a) .answer ≡ held e → (e ≡ storeEntry g t a) × (wordOf e ≡ storeWord t a)
 unfolding refusals ownRefusals accepted
-erase-gives g t a e h = let passed = not-refused g t (erase a) (held e) refl h in gives g t (erase a) a e passed (passed .1 .1 .1 .0) refl h
+erase-gives g t a e h = let passed = held-passed g t (erase a) e h in gives g t (erase a) a e passed (passed .1 .1 .1 .0) refl h
 
 pub read-gives : (g : Geometry) (t : Tables) (a : ℕ) (e : Entry) → step g t (read a) .answer ≡ held e → (e ≡ storeEntry g t a) × (wordOf e ≡ storeWord t a)
 unfolding refusals ownRefusals accepted
-read-gives g t a e h = let passed = not-refused g t (read a) (held e) refl h in gives g t (read a) a e passed (passed .1 .1 .1 .0) refl h
+read-gives g t a e h = let passed = held-passed g t (read a) e h in gives g t (read a) a e passed (passed .1 .1 .1 .0) refl h
 
 -- A call that passed the table and puts e at address a.
 module _ (g : Geometry) (t : Tables) (c : Call (List ℕ)) (a : ℕ) (e : Entry) (passed : Passed (refusals g t c))
@@ -110,16 +114,13 @@ module _ (g : Geometry) (t : Tables) (c : Call (List ℕ)) (a : ℕ) (e : Entry)
       rw (passed-none (refusals g t c) passed, puts) (replaced-bits g (facts g (passed-valid g t c passed)) t a e (address-passes g a .0 inside) (lengths .0) (lengths .1))
 
 -- Every accepted write and every accepted erase.
-pub write-passed : (g : Geometry) (t : Tables) (a p : ℕ) (e : Entry) → step g t (write a p) .answer ≡ held e → Passed (refusals g t (write a p))
-write-passed g t a p e h = not-refused g t (write a p) (held e) refl h
-
 pub write-bits : (g : Geometry) (t : Tables) (a p : ℕ) (e : Entry) → step g t (write a p) .answer ≡ held e
     → EveryBit g t (step g t (write a p) .tables) a (pattern p)
 unfolding refusals ownRefusals accepted
-write-bits g t a p e h = let passed = write-passed g t a p e h in puts-bits g t (write a p) a (pattern p) passed (passed .1 .1 .0) refl
+write-bits g t a p e h = let passed = held-passed g t (write a p) e h in puts-bits g t (write a p) a (pattern p) passed (passed .1 .1 .0) refl
 
 pub erase-bits : (g : Geometry) (t : Tables) (a : ℕ) (e : Entry) → step g t (erase a) .answer ≡ held e → EveryBit g t (step g t (erase a) .tables) a empty
 unfolding refusals ownRefusals accepted
 erase-bits g t a e h =
-    let passed = not-refused g t (erase a) (held e) refl h in
+    let passed = held-passed g t (erase a) e h in
     puts-bits g t (erase a) a empty passed (passed .1 .1 .0) refl

@@ -1,5 +1,5 @@
 -- The plain array: D entries and the six calls on them. It knows the geometry, and nothing of tables, rows or searches.
-use Prim.Native.Nat.{ℕ, suc, _+_, _*_, _/_, _<_}
+use Prim.Native.Nat.{ℕ, suc, _+_, _*_, _/_}
 use mathlib.Core.Path.{_≡_}
 use mathlib.Core.Bool.{true, false, cond, not}
 use mathlib.Core.List.{List, [], _∷_}
@@ -11,8 +11,8 @@ use Rattle.words.specs.Rules.{tabulate}
 use Rattle.words.specs.Bits.{word}
 use Rattle.geometry.specs.declared.Geometry.{Geometry}
 use Rattle.geometry.specs.Valid.{segmented}
-use Rattle.geometry.specs.Sizes.{patterns, rowWords, matchWords, offsetOf}
-use Rattle.reference.specs.Entry.{Entry, empty, pattern, holds}
+use Rattle.geometry.specs.Sizes.{rowWords, matchWords, offsetOf}
+use Rattle.reference.specs.Entry.{Entry, empty, pattern, Fits, holds}
 use Rattle.reference.specs.Calls.{Call, clear, write, erase, read, firstMatch, allMatch, Answer, refused, cleared, held, at, none, matched}
 use Rattle.reference.specs.Refusals.{Refusal, _given-when_, firstRefusal, badAddress, badPattern}
 
@@ -29,7 +29,7 @@ entryAt es a = getD es a empty
 
 pub record Sound (g : Geometry) (es : Array) : Type 0 where
   pub long : length es ≡ g .depth
-  pub fits : (a p : ℕ) → entryAt es a ≡ pattern p → p < patterns g
+  pub fits : (a : ℕ) → Fits g (entryAt es a)
 
 -- The lowest address whose entry is the key, if any; the first entry of the list has address a.
 unfoldable pub lowest : (key a : ℕ) → Array → Option ℕ

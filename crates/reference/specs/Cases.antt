@@ -80,34 +80,25 @@ pub record Trial : Type 0 where
 abbrev pub E : ℕ
 E = 4294967295
 
--- A refusal: the number alone, and everything as it was lent.
-abbrev pub refuses : Geometry → (store indicators : List ℕ) → Call (List ℕ) → (number : ℕ) → (lent : List ℕ) → Trial
-refuses g st ind c n m = record {
+abbrev pub trial : Geometry → (store indicators : List ℕ) → Call (List ℕ) → Answer → (store′ indicators′ matches : List ℕ) → Trial
+trial g st ind c x st′ ind′ m = record {
   geometry = g;
   tables = record { store = st; indicators = ind };
   call = c;
-  leaves = record { answer = refused n; tables = record { store = st; indicators = ind }; matches = m };
+  leaves = record { answer = x; tables = record { store = st′; indicators = ind′ }; matches = m };
 }
 
--- An answer that writes no table.
-abbrev pub answers-with : Geometry → (store indicators : List ℕ) → Call (List ℕ) → Answer → (matches : List ℕ) → Trial
-answers-with g st ind c x m = record {
-  geometry = g;
-  tables = record { store = st; indicators = ind };
-  call = c;
-  leaves = record { answer = x; tables = record { store = st; indicators = ind }; matches = m };
-}
-
--- An answer that leaves other tables.
+-- An answer that leaves other tables; one that writes none; and a refusal, which leaves everything as it was lent.
 abbrev pub writes : Geometry → (store indicators : List ℕ) → Call (List ℕ) → Answer → (store′ indicators′ : List ℕ) → Trial
-writes g st ind c x st′ ind′ = record {
-  geometry = g;
-  tables = record { store = st; indicators = ind };
-  call = c;
-  leaves = record { answer = x; tables = record { store = st′; indicators = ind′ }; matches = [] };
-}
+writes g st ind c x st′ ind′ = trial g st ind c x st′ ind′ []
 
--- S with one address in a set, of the kinds 0 and 2; and a geometry of no kind.
+abbrev pub answers-with : Geometry → (store indicators : List ℕ) → Call (List ℕ) → Answer → (matches : List ℕ) → Trial
+answers-with g st ind c x m = trial g st ind c x st ind m
+
+abbrev pub refuses : Geometry → (store indicators : List ℕ) → Call (List ℕ) → (number : ℕ) → (lent : List ℕ) → Trial
+refuses g st ind c n m = answers-with g st ind c (refused n) m
+
+-- Four addresses, each a set of its own, and two patterns; and a geometry of no kind.
 abbrev pub alone : (kind : ℕ) → Geometry
 alone k = record { kind = k; depth = 4; «pattern_width» = 1; «set_width» = 1 }
 

@@ -80,7 +80,7 @@ module _ (g : Geometry) (deep : (1 ≤ g .depth) × (g .depth ≤ 4096)) where
   kinds false false false ec es e = absurd (false≢true e)
 
 pub facts : (g : Geometry) → valid g ≡ true → Facts g
-unfolding valid kindRule
+unfolding valid
 facts g h =
     let r = and-eq-true-iff (between 1 4096 (g .depth)) (kindRule (g .kind) (g .depth) (g .«pattern_width») (g .«set_width»)) .0 h in
     kinds g (range 1 4096 (g .depth) (r .0)) (eqb (g .kind) transposed) (eqb (g .kind) cascaded) (eqb (g .kind) segmented) refl refl (r .1)

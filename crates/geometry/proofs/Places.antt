@@ -1,10 +1,14 @@
 -- Addresses, sets and offsets, and where the bit of a row and a set stands.
 use Prim.Native.Nat.{ℕ, _+_, _*_, _/_, _%_, _<_, _≤_}
-use mathlib.Core.Path.{_≡_, sym}
+use mathlib.Core.Path.{_≡_, sym, ap, _∙_}
+use mathlib.Core.Bool.{true, _&&_, and-eq-true-iff}
 use mathlib.Core.Logic.{_⊎_, inl, inr}
 use native.Mathlib.Nat.{le-of-suc-le-suc, lt-of-not-le, eq-or-lt-of-le, mod-lt, mul-comm, mul-le-mul-left, div-add-mod, div-lt-iff-lt-mul, div-div-eq-div-mul}
 use native.Mathlib.Omega.{arith}
+use lib.Dec.{eqb}
 use lib.Arith.{digits-lt, digits-div, digits-mod}
+use borrow.Author.Tests.{eqb-true, eq-eqb}
+use Rattle.words.proofs.Rules.{both-ways}
 use Rattle.geometry.specs.declared.Geometry.{Geometry}
 use Rattle.geometry.specs.Sizes.{sets, rowWords, matchWords, setOf, offsetOf, addressOf}
 use Rattle.geometry.specs.Stages.{rows, indicatorWords}
@@ -92,6 +96,22 @@ module _ (g : Geometry) (f : Facts g) where
 
   pub word-of-place : (r j : ℕ) → j < rowWords g → (rowWords g * r + j) % rowWords g ≡ j
   word-of-place r j hj = rw mul-comm (digits-mod r hj)
+
+  -- two places are one exactly when their rows and their words are
+  pub place-same : (r j q k : ℕ) → j < rowWords g → k < rowWords g → eqb (rowWords g * r + j) (rowWords g * q + k) ≡ (eqb r q && eqb j k)
+  place-same r j q k hj hk = both-ways _ _ apart together
+    where
+      apart : eqb (rowWords g * r + j) (rowWords g * q + k) ≡ true → (eqb r q && eqb j k) ≡ true
+      apart e =
+          let m = eqb-true (rowWords g * r + j) (rowWords g * q + k) e in
+          let same-row : r ≡ q = sym (row-of-place r j hj) ∙ ap (λ n. n / rowWords g) m ∙ row-of-place q k hk in
+          let same-word : j ≡ k = sym (word-of-place r j hj) ∙ ap (λ n. n % rowWords g) m ∙ word-of-place q k hk in
+          and-eq-true-iff _ _ .1 (eq-eqb r q same-row, eq-eqb j k same-word)
+
+      together : (eqb r q && eqb j k) ≡ true → eqb (rowWords g * r + j) (rowWords g * q + k) ≡ true
+      together e =
+          let both = and-eq-true-iff (eqb r q) (eqb j k) .0 e in
+          eq-eqb (rowWords g * r + j) (rowWords g * q + k) (rw (eqb-true r q (both .0), eqb-true j k (both .1)))
 
   pub place-of : (m : ℕ) → rowWords g * (m / rowWords g) + m % rowWords g ≡ m
   place-of m = div-add-mod m (rowWords g)

@@ -1,21 +1,20 @@
 -- The searches on any tables: which sets a key indicates, and what both matches answer in terms of them.
-use Prim.Native.Nat.{ℕ, _+_, _-_, _*_, _/_, _%_, _^_, _<_, _≤_, min}
+use Prim.Native.Nat.{ℕ, _+_, _-_, _*_, _/_, _%_, _^_, _<_, _≤_}
 use mathlib.Core.Path.{_≡_, refl, sym, ap, _∙_}
 use mathlib.Core.Logic.{_↔_}
 use mathlib.Core.Bool.{Bool, true, false, not, _&&_, _||_, or-true, and-eq-true-iff, false≢true}
 use mathlib.Core.List.{List, [], _∷_, foldr}
-use native.Mathlib.Nat.{le-trans, lt-of-le-of-lt, lt-of-lt-of-le, min-le-left, le-refl, le-add-right, add-zero}
+use native.Mathlib.Nat.{le-trans, lt-of-le-of-lt, le-refl, le-add-right, add-zero}
 use native.Mathlib.Omega.{arith}
-use lib.Dec.{eqb, ltb}
+use lib.Dec.{eqb}
 use lib.Bits.{bitAnd, and-le-r}
 use lib.ListN.{length, getD}
-use lib.Pow.{pow-mono, ones-lt}
-use borrow.Author.Tests.{ltb-true, ltb-false, lt-ltb, le-ltb, eqb-true, eq-eqb}
+use borrow.Author.Tests.{ltb-true, lt-ltb, eqb-true, eq-eqb}
 use Rattle.words.specs.Rules.{count, member, First, Nowhere}
-use Rattle.words.specs.Bits.{bit, totalOnes}
+use Rattle.words.specs.Bits.{bit, rowMask, totalOnes}
 use Rattle.words.specs.Seek.{Sought, found, missed}
 use Rattle.words.proofs.Rules.{any-witness, any-true, refuted, count-none, count-add, member-tabulate, first-unique}
-use Rattle.words.proofs.Bits.{bit-and, bit-ones, ones-of-rule}
+use Rattle.words.proofs.Bits.{bit-and, bit-mask, mask-lt, ones-of-rule}
 use Rattle.words.proofs.Seek.{seek-found, seek-missed, row-word, row-first, row-nowhere}
 use Rattle.geometry.specs.declared.Geometry.{Geometry}
 use Rattle.geometry.specs.Valid.{valid, segmented}
@@ -26,7 +25,7 @@ use Rattle.geometry.proofs.Places.{sets-most, set-past, matches-most}
 use Rattle.reference.specs.Calls.{firstMatch, allMatch, none, refused, matched}
 use Rattle.reference.specs.Refusals.{_given-when_, firstRefusal}
 use Rattle.reference.specs.Tables.{Tables, storeWord, cell}
-use Rattle.reference.specs.Search.{setMask, joined, indicated, seekWord, seekEntry, lowestSet, Found, hit, nothing, falseSet, isFalse, inSet, firstFound, anyIsFalse, answerOf, taken, takenWords}
+use Rattle.reference.specs.Search.{joined, indicated, seekWord, seekEntry, lowestSet, Found, hit, nothing, falseSet, isFalse, inSet, firstFound, anyIsFalse, answerOf, taken, takenWords}
 use Rattle.reference.specs.Steps.{badMatches, ownRefusals, refusals, accepted, outcome, step}
 use Rattle.reference.specs.Statements.{stores, NoEqual, FirstOnAny, no-set, set-alone, equal-entry, AllOnAny, all-taken}
 use Rattle.reference.proofs.Limits.{lengths-pass, pattern-passes}
@@ -61,15 +60,6 @@ module _ (g : Geometry) (t : Tables) (j : ℕ) where
   joined-le m [] = le-refl m
   joined-le m (x ∷ rs) = le-trans (and-le-r (getD (t .indicators) (rowWords g * x + j) 0) (foldr joins m rs)) (joined-le m rs)
 
--- the mask has the bits of the sets, and no other
-mask-bit : (g : Geometry) (s : ℕ) → bit (setMask g (s / 64)) (s % 64) ≡ ltb s (sets g)
-unfolding setMask
-mask-bit g s = bit-ones _ _ ∙ go (ltb s (sets g)) refl
-  where
-    go : (b : Bool) → ltb s (sets g) ≡ b → ltb (s % 64) (min 64 (sets g - 64 * (s / 64))) ≡ b
-    go true e = let inside = ltb-true s (sets g) e in lt-ltb (s % 64) (min 64 (sets g - 64 * (s / 64))) (omega arith)
-    go false e = let past = ltb-false s (sets g) e in le-ltb (s % 64) (min 64 (sets g - 64 * (s / 64))) (omega arith)
-
 -- ---- indicated sets
 
 -- A set is indicated exactly when it is one and each row of the key has its bit: padding bits indicate nothing.
@@ -80,14 +70,14 @@ indicated-means g t key s = (there, back)
   where
     there : indicated g t key s ≡ true → (s < sets g) × ((k : ℕ) → k < stages g → cell g (t .indicators) (rowOf g key k) (s / 64) (s % 64) ≡ true)
     there h =
-        let p = joined-all g t (s / 64) (setMask g (s / 64)) (s % 64) (rowsOf g key) h in (
-          ltb-true s (sets g) (sym (mask-bit g s) ∙ p .0),
+        let p = joined-all g t (s / 64) (rowMask (sets g) (s / 64)) (s % 64) (rowsOf g key) h in (
+          ltb-true s (sets g) (sym (bit-mask (sets g) s) ∙ p .0),
           λ k l. p .1 (rowOf g key k) (member-tabulate _ (stages g) (rowOf g key) ∙ any-true (stages g) _ k l (eq-eqb (rowOf g key k) _ refl)),
         )
 
     back : (s < sets g) × ((k : ℕ) → k < stages g → cell g (t .indicators) (rowOf g key k) (s / 64) (s % 64) ≡ true) → indicated g t key s ≡ true
     back (inside, all) =
-        all-joined g t (s / 64) (setMask g (s / 64)) (s % 64) (rowsOf g key) (mask-bit g s ∙ lt-ltb s (sets g) inside)
+        all-joined g t (s / 64) (rowMask (sets g) (s / 64)) (s % 64) (rowsOf g key) (bit-mask (sets g) s ∙ lt-ltb s (sets g) inside)
         (λ r h. of-row r (any-witness (stages g) _ (sym (member-tabulate r (stages g) (rowOf g key)) ∙ h)))
       where
         of-row : (r : ℕ) → (k : ℕ) × (k < stages g) × (eqb r (rowOf g key k) ≡ true) → cell g (t .indicators) r (s / 64) (s % 64) ≡ true
@@ -95,10 +85,8 @@ indicated-means g t key s = (there, back)
 
 -- a joined word has 64 bits
 pub joined-lt : (g : Geometry) (t : Tables) (key j : ℕ) → joined g t key j < 2 ^ 64
-unfolding joined setMask joins
-joined-lt g t key j =
-    lt-of-le-of-lt (joined-le g t j (setMask g j) (rowsOf g key))
-    (lt-of-lt-of-le (ones-lt (min 64 (sets g - 64 * j))) (pow-mono (min-le-left 64 (sets g - 64 * j))))
+unfolding joined joins
+joined-lt g t key j = lt-of-le-of-lt (joined-le g t j (rowMask (sets g) j) (rowsOf g key)) (mask-lt (sets g) j)
 
 -- ---- the set that decides
 

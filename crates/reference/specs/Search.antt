@@ -1,5 +1,5 @@
 -- The searches of both matches on any tables.
-use Prim.Native.Nat.{ℕ, _+_, _-_, _*_, _/_, _%_, _^_, min}
+use Prim.Native.Nat.{ℕ, _+_, _*_, _/_, _%_}
 use mathlib.Core.Bool.{Bool, true, false, not, _&&_, _||_}
 use mathlib.Core.List.{List, foldr}
 use lib.Dec.{eqb}
@@ -7,7 +7,7 @@ use lib.Bits.{bitAnd}
 use lib.Count.{trailingZeros}
 use lib.ListN.{getD}
 use Rattle.words.specs.Rules.{any, tabulate}
-use Rattle.words.specs.Bits.{bit, word}
+use Rattle.words.specs.Bits.{bit, rowMask, word}
 use Rattle.words.specs.Seek.{Sought, found, missed, seek}
 use Rattle.geometry.specs.declared.Geometry.{Geometry}
 use Rattle.geometry.specs.Valid.{segmented}
@@ -16,13 +16,9 @@ use Rattle.geometry.specs.Stages.{rowsOf}
 use Rattle.reference.specs.Calls.{Answer, refused, at, none}
 use Rattle.reference.specs.Tables.{Tables, storeWord}
 
--- The bits of word j of a row that belong to a set.
-unfoldable pub setMask : Geometry → (j : ℕ) → ℕ
-setMask g j = 2 ^ min 64 (sets g - 64 * j) - 1
-
 -- Word j of the key's rows, joined bit by bit with and; padding bits are dropped.
 unfoldable pub joined : Geometry → Tables → (key j : ℕ) → ℕ
-joined g t key j = foldr (λ r w. bitAnd (getD (t .indicators) (rowWords g * r + j) 0) w) (setMask g j) (rowsOf g key)
+joined g t key j = foldr (λ r w. bitAnd (getD (t .indicators) (rowWords g * r + j) 0) w) (rowMask (sets g) j) (rowsOf g key)
 
 unfoldable pub indicated : Geometry → Tables → (key set : ℕ) → Bool
 indicated g t key s = bit (joined g t key (s / 64)) (s % 64)

@@ -3,9 +3,9 @@ use Prim.Native.Nat.{ℕ, _+_, _*_, _/_, _%_}
 use mathlib.Core.Bool.{Bool, not, _&&_}
 use mathlib.Core.List.{List, [], _∷_}
 use lib.Dec.{eqb}
-use lib.ListN.{getD, set}
+use lib.ListN.{set}
 use Rattle.words.specs.Rules.{any, member, keep}
-use Rattle.words.specs.Bits.{setBit, clearBit}
+use Rattle.words.specs.Bits.{setBit, clearBit, changeBit}
 use Rattle.geometry.specs.declared.Geometry.{Geometry}
 use Rattle.geometry.specs.Sizes.{rowWords, setOf, addressOf}
 use Rattle.reference.specs.Entry.{Entry, wordOf}
@@ -15,9 +15,7 @@ use Rattle.reference.specs.Image.{entryRows, covers}
 -- The indicators with the bits of some rows in one set changed, by setBit or by clearBit.
 unfoldable pub change : (ℕ → ℕ → ℕ) → Geometry → (set : ℕ) → (rows ind : List ℕ) → List ℕ
 change f g s [] ind = ind
-change f g s (r ∷ rs) ind =
-    let m : ℕ = rowWords g * r + s / 64 in
-    change f g s rs (set ind m (f (getD ind m 0) (s % 64)))
+change f g s (r ∷ rs) ind = change f g s rs (changeBit f ind (rowWords g * r + s / 64) (s % 64))
 
 -- Whether another address of a's set has an entry that covers the row.
 unfoldable pub othersCover : Geometry → Tables → (a row : ℕ) → Bool

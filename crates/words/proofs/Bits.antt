@@ -1,16 +1,19 @@
 -- Laws of single bits, for any width.
-use Prim.Native.Nat.{ℕ, zero, suc, _+_, _-_, _*_, _/_, _%_, _^_, _<_, _≤_, suc-le-suc}
-use native.Mathlib.Nat.{add-comm, le-add-right, div-div-eq-div-mul, div-eq-of-lt, div-one, lt-of-lt-of-le, le-of-suc-le-suc, mod-lt, mul-comm, pow-suc, zero-div, zero-lt-suc}
+use Prim.Native.Nat.{ℕ, zero, suc, _+_, _-_, _*_, _/_, _%_, _^_, _<_, _≤_, min, suc-le-suc}
+use native.Mathlib.Nat.{add-comm, le-add-right, div-div-eq-div-mul, div-eq-of-lt, div-one, lt-of-lt-of-le, le-of-suc-le-suc, min-le-left, mod-lt, mul-comm, pow-suc, zero-div, zero-lt-suc}
 use native.Mathlib.Omega.{arith}
 use mathlib.Core.Path.{_≡_, refl, sym, ap, ap₂, _∙_}
-use mathlib.Core.Bool.{Bool, true, false, cond, not, _&&_, _||_}
+use mathlib.Core.Bool.{Bool, true, false, cond, not, _&&_, _||_, and-true}
+use mathlib.Core.List.{List}
 use lib.Dec.{eqb, ltb, leb·zero, leb·suc-zero, leb·suc-suc, eqb·zero-suc, eqb·suc-zero, eqb·suc-suc}
-use lib.Pow.{pow-mono, pow-pos}
+use lib.Pow.{pow-mono, pow-pos, ones-lt}
 use lib.Bits.{bitAnd, bitOr, bitXor, and-shr, or-shr, xor-shr, and-mod, or-mod, xor-mod}
 use lib.Count.{trailingZeros, under}
-use borrow.Author.Tests.{ltb-true, ltb-false}
+use lib.ListN.{length, getD, set, length-set}
+use lib.Seq.{getD-set-same, getD-set-other}
+use borrow.Author.Tests.{ltb-true, ltb-false, lt-ltb, le-ltb, eqb-true, eqb-false}
 use Rattle.words.specs.Rules.{count, tabulate, First}
-use Rattle.words.specs.Bits.{bit, setBit, clearBit, word, totalOnes}
+use Rattle.words.specs.Bits.{bit, setBit, clearBit, changeBit, rowMask, word, totalOnes}
 use Rattle.words.proofs.Rules.{count-add, count-ext}
 
 -- a digit is 0 or 1
@@ -26,11 +29,11 @@ bit-low : (n : ℕ) → bit n 0 ≡ eqb (n % 2) 1
 unfolding bit
 bit-low n = rw div-one
 
-bit-suc : (n i : ℕ) → bit n (suc i) ≡ bit (n / 2) i
+pub bit-suc : (n i : ℕ) → bit n (suc i) ≡ bit (n / 2) i
 unfolding bit
 bit-suc n i = rw (pow-suc, mul-comm (2 ^ i) 2, ← div-div-eq-div-mul)
 
-low-of-bit : (n : ℕ) → cond (bit n 0) 1 0 ≡ n % 2
+pub low-of-bit : (n : ℕ) → cond (bit n 0) 1 0 ≡ n % 2
 low-of-bit n = rw bit-low (two (λ d. cond (eqb d 1) 1 0 ≡ d) refl refl n)
 
 pub word-ext : (n : ℕ) (r s : ℕ → Bool) → ((i : ℕ) → i < n → r i ≡ s i) → word n r ≡ word n s
@@ -72,17 +75,21 @@ pub bit-out : (n a i : ℕ) → a < 2 ^ n → n ≤ i → bit a i ≡ false
 unfolding bit
 bit-out n a i h l = rw (div-eq-of-lt (lt-of-lt-of-le h (pow-mono l)))
 
+-- every one of n bits turned round
+pub bit-not : (n a i : ℕ) → a < 2 ^ n → bit ((2 ^ n - 1) - a) i ≡ (ltb i n && not (bit a i))
+bit-not zero a i h = let e : (2 ^ 0 - 1) - a ≡ 0 = omega arith in rw (e, leb·suc-zero i) (bit-zero i)
+bit-not (suc n) a zero h =
+    let odd : ((2 ^ suc n - 1) - a) % 2 ≡ 1 - a % 2 = omega (arith, pow-suc 2 n) in
+    rw (bit-low, odd, bit-low a, leb·suc-suc, leb·zero) (two (λ d. eqb (1 - d) 1 ≡ not (eqb d 1)) refl refl a)
+bit-not (suc n) a (suc i) h =
+    let half : ((2 ^ suc n - 1) - a) / 2 ≡ (2 ^ n - 1) - a / 2 = omega (arith, pow-suc 2 n) in
+    rw (bit-suc, half, bit-suc a, leb·suc-suc) (bit-not n (a / 2) i (omega (arith, pow-suc 2 n)))
+
 -- the n low bits set
 pub bit-ones : (n i : ℕ) → bit (2 ^ n - 1) i ≡ ltb i n
-bit-ones zero i = bit-zero i ∙ sym (leb·suc-zero i)
-bit-ones (suc n) zero =
-    let odd : (2 ^ suc n - 1) % 2 ≡ 1 = omega (arith, pow-suc 2 n, pow-pos n) in
-    rw (bit-low, odd, leb·suc-suc, leb·zero)
-bit-ones (suc n) (suc i) =
-    let half : (2 ^ suc n - 1) / 2 ≡ 2 ^ n - 1 = omega (arith, pow-suc 2 n, pow-pos n) in
-    rw (bit-suc, half, bit-ones n i, leb·suc-suc)
+bit-ones n i = ap (λ a. bit a i) (omega arith) ∙ bit-not n 0 i (pow-pos n) ∙ rw bit-zero (and-true (ltb i n))
 
-bit-pow : (i j : ℕ) → bit (2 ^ i) j ≡ eqb j i
+pub bit-pow : (i j : ℕ) → bit (2 ^ i) j ≡ eqb j i
 bit-pow zero zero = bit-low 1
 bit-pow zero (suc j) = bit-suc 1 j ∙ bit-zero j ∙ sym (eqb·suc-zero j)
 bit-pow (suc i) zero =
@@ -120,6 +127,37 @@ unfolding clearBit
 bit-clear n i j =
     bit-op (λ a b. bitXor (bitOr a b) b) (λ x y. not y && x) (λ a b k. rw (xor-shr, or-shr)) (λ a b k. rw (xor-mod, or-mod)) refl refl refl refl n (2 ^ i) j
     ∙ rw bit-pow
+
+-- Every bit of some words after one of them is changed. f changes bit b of a word as op does, told whether b is the bit
+-- meant; setting and clearing are two such changes.
+module _ (f : ℕ → ℕ → ℕ) (op : Bool → Bool → Bool)
+    (changes : (n i b : ℕ) → bit (f n i) b ≡ op (eqb b i) (bit n b))
+    (skip : (x : Bool) → op false x ≡ x) where
+  pub bit-change : (ws : List ℕ) (m i : ℕ) → m < length ws → (k b : ℕ)
+      → bit (getD (changeBit f ws m i) k 0) b ≡ op (eqb k m && eqb b i) (bit (getD ws k 0) b)
+  unfolding changeBit
+  bit-change ws m i h k b = go (eqb k m) refl
+    where
+      go : (t : Bool) → eqb k m ≡ t → bit (getD (set ws m (f (getD ws m 0) i)) k 0) b ≡ op (t && eqb b i) (bit (getD ws k 0) b)
+      go true e = rw (eqb-true k m e, getD-set-same ws m (f (getD ws m 0) i) 0 h) (changes (getD ws m 0) i b)
+      go false e = rw (getD-set-other ws m k (f (getD ws m 0) i) 0 (eqb-false k m e)) (sym (skip _))
+
+pub length-changeBit : (f : ℕ → ℕ → ℕ) (ws : List ℕ) (m i : ℕ) → length (changeBit f ws m i) ≡ length ws
+unfolding changeBit
+length-changeBit f ws m i = length-set ws m (f (getD ws m 0) i)
+
+-- a row's mask has the bits of its places, and no other
+pub bit-mask : (n s : ℕ) → bit (rowMask n (s / 64)) (s % 64) ≡ ltb s n
+unfolding rowMask
+bit-mask n s = bit-ones _ _ ∙ go (ltb s n) refl
+  where
+    go : (b : Bool) → ltb s n ≡ b → ltb (s % 64) (min 64 (n - 64 * (s / 64))) ≡ b
+    go true e = let inside = ltb-true s n e in lt-ltb (s % 64) (min 64 (n - 64 * (s / 64))) (omega arith)
+    go false e = let past = ltb-false s n e in le-ltb (s % 64) (min 64 (n - 64 * (s / 64))) (omega arith)
+
+pub mask-lt : (n j : ℕ) → rowMask n j < 2 ^ 64
+unfolding rowMask
+mask-lt n j = lt-of-lt-of-le (ones-lt (min 64 (n - 64 * j))) (pow-mono (min-le-left 64 (n - 64 * j)))
 
 flag-lt : (b : Bool) → cond b 1 0 < 2
 flag-lt true = omega arith

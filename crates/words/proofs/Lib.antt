@@ -1,3 +1,4 @@
 pub mod Rules
 pub mod Bits
+pub mod Machine
 pub mod Seek

@@ -1,5 +1,5 @@
 -- Laws of rules over numbers, and of the lists made by them.
-use Prim.Native.Nat.{ℕ, zero, suc, _+_, _<_}
+use Prim.Native.Nat.{ℕ, zero, suc, _+_, _<_, _≤_}
 use mathlib.Core.Logic.{_⊎_, inl, inr}
 use mathlib.Core.Path.{_≡_, refl, sym, ap, _∙_}
 use mathlib.Core.Bool.{Bool, true, false, cond, not, _&&_, _||_, false≢true, or-true, or-false, or-assoc, and-false}
@@ -83,6 +83,15 @@ pub count-ext : (n : ℕ) (r s : ℕ → Bool) → ((i : ℕ) → i < n → r i 
 unfolding count
 count-ext zero r s h = refl
 count-ext (suc n) r s h = rw (count-ext n r s (λ i l. h i (omega arith)), h n (omega arith))
+
+pub count-most : (n : ℕ) (r : ℕ → Bool) → count n r ≤ n
+unfolding count
+count-most zero r = omega arith
+count-most (suc n) r = go (r n) (count-most n r)
+  where
+    go : (b : Bool) → count n r ≤ n → count n r + cond b 1 0 ≤ suc n
+    go true h = omega arith
+    go false h = omega arith
 
 pub count-none : (n : ℕ) (r : ℕ → Bool) → Nowhere n r → count n r ≡ 0
 unfolding count

@@ -1,9 +1,10 @@
 -- Single bits of a number, and the number that has given bits.
-use Prim.Native.Nat.{ℕ, zero, suc, _+_, _*_, _/_, _%_, _^_}
+use Prim.Native.Nat.{ℕ, zero, suc, _+_, _-_, _*_, _/_, _%_, _^_, min}
 use mathlib.Core.Bool.{Bool, cond}
 use mathlib.Core.List.{List, [], _∷_}
 use lib.Dec.{eqb}
 use lib.Bits.{bitOr, bitXor}
+use lib.ListN.{getD, set}
 use Rattle.words.specs.Rules.{count}
 
 -- Bit i of n; bit 0 is worth 1.
@@ -17,6 +18,14 @@ setBit n i = bitOr n (2 ^ i)
 -- n with bit i cleared: set, and then taken away.
 unfoldable pub clearBit : ℕ → ℕ → ℕ
 clearBit n i = bitXor (bitOr n (2 ^ i)) (2 ^ i)
+
+-- Words with bit b of word m changed, by setBit or by clearBit.
+unfoldable pub changeBit : (ℕ → ℕ → ℕ) → (words : List ℕ) → (m b : ℕ) → List ℕ
+changeBit f ws m b = set ws m (f (getD ws m 0) b)
+
+-- A row has a bit for each of n places, 64 in a word: the bits of word j that stand for a place. The others are padding.
+unfoldable pub rowMask : (n j : ℕ) → ℕ
+rowMask n j = 2 ^ min 64 (n - 64 * j) - 1
 
 -- The number whose bit i is r i for each i below n, with no bit from n on.
 unfoldable pub word : ℕ → (ℕ → Bool) → ℕ

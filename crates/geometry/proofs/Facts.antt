@@ -9,7 +9,7 @@ use lib.Dec.{eqb, leb, lit<, lit≤}
 use lib.Pow.{pow-mono}
 use borrow.Author.Tests.{leb-true, eqb-true}
 use Rattle.geometry.specs.declared.Geometry.{Geometry}
-use Rattle.geometry.specs.Valid.{between, valid, kindRule, transposed, cascaded, segmented}
+use Rattle.geometry.specs.Valid.{between, segmentedRule, valid, kindRule, transposed, cascaded, segmented}
 use Rattle.geometry.specs.Sizes.{roundedUp, patterns, sets}
 use Rattle.geometry.specs.Stages.{stages}
 
@@ -29,7 +29,7 @@ pub record Facts (g : Geometry) : Type 0 where
   -- stages: one, or as many as the width asks
   pub staged : (stages g ≡ 1) ⊎ (9 * stages g < g .«pattern_width» + 9)
 
-range : (low high n : ℕ) → between low high n ≡ true → (low ≤ n) × (n ≤ high)
+pub range : (low high n : ℕ) → between low high n ≡ true → (low ≤ n) × (n ≤ high)
 range low high n e =
     let r = and-eq-true-iff (leb low n) (leb n high) .0 e in
     (leb-true low n (r .0), leb-true n high (r .1))
@@ -67,16 +67,16 @@ module _ (g : Geometry) (deep : (1 ≤ g .depth) × (g .depth ≤ 4096)) where
   kinds : (t c s : Bool) → eqb (g .kind) cascaded ≡ c → eqb (g .kind) segmented ≡ s
       → cond t (between 1 12 (g .«pattern_width») && eqb (g .«set_width») 1)
       (cond c (between 1 27 (g .«pattern_width») && eqb (g .«set_width») 1)
-      (cond s (between 1 12 (g .«pattern_width») && between 1 64 (g .«set_width») && eqb (g .depth % g .«set_width») 0) false)) ≡ true
+      (cond s (between 1 12 (g .«pattern_width») && segmentedRule (g .depth) (g .«set_width»)) false)) ≡ true
       → Facts g
   unfolding stages
   kinds true c s ec es e = plain 12 (lit≤ tt) e
   kinds false true s ec es e = plain 27 (lit≤ tt) e
   kinds false false true ec es e =
-      let r = and-eq-true-iff (between 1 12 (g .«pattern_width») && between 1 64 (g .«set_width»)) (eqb (g .depth % g .«set_width») 0) .0 e in
-      let q = and-eq-true-iff (between 1 12 (g .«pattern_width»)) (between 1 64 (g .«set_width»)) .0 (r .0) in
-      let w = range 1 12 (g .«pattern_width») (q .0) in
-      made (omega arith) (range 1 64 (g .«set_width») (q .1)) (eqb-true _ _ (r .1)) (inr (rw ec)) (λ n. absurd (true≢false (sym es ∙ n)))
+      let r = and-eq-true-iff (between 1 12 (g .«pattern_width»)) (segmentedRule (g .depth) (g .«set_width»)) .0 e in
+      let q = and-eq-true-iff (between 1 64 (g .«set_width»)) (eqb (g .depth % g .«set_width») 0) .0 (r .1) in
+      let w = range 1 12 (g .«pattern_width») (r .0) in
+      made (omega arith) (range 1 64 (g .«set_width») (q .0)) (eqb-true _ _ (q .1)) (inr (rw ec)) (λ n. absurd (true≢false (sym es ∙ n)))
   kinds false false false ec es e = absurd (false≢true e)
 
 pub facts : (g : Geometry) → valid g ≡ true → Facts g

@@ -16,12 +16,16 @@ segmented = 2
 abbrev pub between : ℕ → ℕ → ℕ → Bool
 between low high n = leb low n && leb n high
 
--- The rule of a kind on depth, pattern width and set width. A set width of 0 fails before its remainder counts.
+-- The segmented kind's set width: "1 to 64 and a divisor of D". A width of 0 fails before its remainder counts.
+abbrev pub segmentedRule : (depth set : ℕ) → Bool
+segmentedRule depth set = between 1 64 set && eqb (depth % set) 0
+
+-- The rule of a kind on depth, pattern width and set width.
 unfoldable pub kindRule : (kind depth width set : ℕ) → Bool
 kindRule kind depth width set =
     cond (eqb kind transposed) (between 1 12 width && eqb set 1)
     (cond (eqb kind cascaded) (between 1 27 width && eqb set 1)
-    (cond (eqb kind segmented) (between 1 12 width && between 1 64 set && eqb (depth % set) 0) false))
+    (cond (eqb kind segmented) (between 1 12 width && segmentedRule depth set) false))
 
 -- Refusal 1 is given exactly where this is false.
 unfoldable pub valid : Geometry → Bool

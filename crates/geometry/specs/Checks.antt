@@ -1,0 +1,51 @@
+-- What the checks give: the sizes of a geometry, or document 01's refusals 1 and 2 in their order.
+use Prim.Native.Nat.{ℕ}
+use mathlib.Core.Bool.{Bool, true, false, cond, _&&_}
+use lib.Dec.{eqb}
+use Rattle.geometry.specs.declared.Geometry.{Geometry}
+use Rattle.geometry.specs.declared.Sizes.{Sizes}
+use Rattle.geometry.specs.declared.Refusal.{Refusal}
+use Rattle.geometry.specs.declared.Refusal.the-variants.{BadGeometry, BadLengths}
+use Rattle.geometry.specs.declared.Checked.{Checked}
+use Rattle.geometry.specs.declared.Checked.the-variants.{Accepted, Refused}
+use Rattle.geometry.specs.Valid.{valid}
+use Rattle.geometry.specs.Sizes.{patterns, sets, rowWords, matchWords}
+use Rattle.geometry.specs.Stages.{stages, indicatorWords}
+
+abbrev pub numberOf : Refusal → ℕ
+numberOf BadGeometry = 1
+numberOf BadLengths = 2
+
+unfoldable pub sizesOf : Geometry → Sizes
+sizesOf g = record {
+  patterns = patterns g;
+  sets = sets g;
+  «row_words» = rowWords g;
+  stages = stages g;
+  «indicator_words» = indicatorWords g;
+  «match_words» = matchWords g;
+}
+
+-- The sizes where the four numbers are a geometry.
+unfoldable pub checked : Geometry → Checked
+checked g = cond (valid g) (Accepted (sizesOf g)) (Refused BadGeometry)
+
+-- The same, where the lengths are right too.
+unfoldable pub andLengths : Checked → (right : Bool) → Checked
+andLengths (Accepted sizes) true = Accepted sizes
+andLengths (Accepted sizes) false = Refused BadLengths
+andLengths (Refused why) right = Refused why
+
+-- "store not D, indicators not R × all rows"
+unfoldable pub tablesFit : Geometry → (store indicators : ℕ) → Bool
+tablesFit g store indicators = eqb store (g .depth) && eqb indicators (indicatorWords g)
+
+-- "or match word not D / 64 rounded up"
+unfoldable pub matchesFit : Geometry → (matches : ℕ) → Bool
+matchesFit g matches = eqb matches (matchWords g)
+
+unfoldable pub checkedTables : Geometry → (store indicators : ℕ) → Checked
+checkedTables g store indicators = andLengths (checked g) (tablesFit g store indicators)
+
+unfoldable pub checkedMatches : Geometry → (store indicators matches : ℕ) → Checked
+checkedMatches g store indicators matches = andLengths (checkedTables g store indicators) (matchesFit g matches)

@@ -38,11 +38,11 @@ tables-accepted g store indicators s e =
 -- the tests as the code makes them, with the sizes at hand
 pub tables-by-sizes : (g : Geometry) (s : Sizes) (store indicators : ℕ) → s ≡ sizesOf g
     → tablesFit g store indicators ≡ (eqb store (g .depth) && eqb indicators (s .«indicator_words»))
-unfolding tablesFit sizesOf
+unfolding sizesOf
 tables-by-sizes g s store indicators e = rw e
 
 pub matches-by-sizes : (g : Geometry) (s : Sizes) (matches : ℕ) → s ≡ sizesOf g → matchesFit g matches ≡ eqb matches (s .«match_words»)
-unfolding matchesFit sizesOf
+unfolding sizesOf
 matches-by-sizes g s matches e = rw e
 
 -- the three ways of the test

@@ -37,11 +37,11 @@ andLengths (Accepted sizes) false = Refused BadLengths
 andLengths (Refused why) right = Refused why
 
 -- "store not D, indicators not R × all rows"
-unfoldable pub tablesFit : Geometry → (store indicators : ℕ) → Bool
+abbrev pub tablesFit : Geometry → (store indicators : ℕ) → Bool
 tablesFit g store indicators = eqb store (g .depth) && eqb indicators (indicatorWords g)
 
 -- "or match word not D / 64 rounded up"
-unfoldable pub matchesFit : Geometry → (matches : ℕ) → Bool
+abbrev pub matchesFit : Geometry → (matches : ℕ) → Bool
 matchesFit g matches = eqb matches (matchWords g)
 
 unfoldable pub checkedTables : Geometry → (store indicators : ℕ) → Checked

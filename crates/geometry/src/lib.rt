@@ -5,7 +5,7 @@ ghost use Prim.Native.Nat.{_^_, _<_};
 ghost use mathlib.Core.Path.{_≡_};
 ghost use mathlib.Core.Bool.{true};
 ghost use Rattle.geometry.specs.Valid.{between, segmentedRule, kindRule, valid};
-ghost use Rattle.geometry.specs.Sizes.{sets};
+ghost use Rattle.geometry.specs.Sizes.{sets, rowWords};
 ghost use Rattle.geometry.specs.Stages.{stages, stageWidth, rowOf, rows};
 ghost use Rattle.geometry.specs.Checks.{sizesOf, checked, checkedTables, checkedMatches, numberOf};
 
@@ -140,6 +140,13 @@ impl Geometry {
         (self.depth / self.set_width) as usize
     }
 
+    fn row_words(self) -> usize
+        requires { ⌜ valid self ≡ true ⌝ }
+        ensures { λ r. ⌜ r ≡ rowWords self ⌝ }
+    {
+        (self.sets() + 63) / 64
+    }
+
     // The rows of all stages.
     fn rows(self) -> usize
         requires { ⌜ valid self ≡ true ⌝ }
@@ -153,11 +160,10 @@ impl Geometry {
         requires { ⌜ valid self ≡ true ⌝ }
         ensures { λ r. ⌜ r ≡ sizesOf self ⌝ }
     {
-        let sets = self.sets();
-        let row_words = (sets + 63) / 64;
+        let row_words = self.row_words();
         Sizes {
             patterns: 1 << self.pattern_width,
-            sets,
+            sets: self.sets(),
             row_words,
             stages: self.stages(),
             indicator_words: row_words * self.rows(),

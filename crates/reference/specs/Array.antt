@@ -12,6 +12,7 @@ use Rattle.words.specs.Bits.{word}
 use Rattle.geometry.specs.declared.Geometry.{Geometry}
 use Rattle.geometry.specs.Valid.{segmented}
 use Rattle.geometry.specs.Sizes.{rowWords, matchWords, offsetOf}
+use Rattle.geometry.specs.Checks.{matchesFit}
 use Rattle.reference.specs.Entry.{Entry, empty, pattern, Fits, holds}
 use Rattle.reference.specs.Calls.{Call, clear, write, erase, read, firstMatch, allMatch, Answer, refused, cleared, held, at, none, matched}
 use Rattle.reference.specs.Refusals.{Refusal, _given-when_, firstRefusal, badAddress, badPattern}
@@ -57,7 +58,7 @@ arrayRefusals g (write a p) = 3 given-when badAddress g a ∷ 4 given-when badPa
 arrayRefusals g (erase a) = 3 given-when badAddress g a ∷ []
 arrayRefusals g (read a) = 3 given-when badAddress g a ∷ []
 arrayRefusals g (firstMatch key) = 4 given-when badPattern g key ∷ []
-arrayRefusals g (allMatch key len) = 2 given-when not (eqb len (matchWords g)) ∷ 4 given-when badPattern g key ∷ []
+arrayRefusals g (allMatch key len) = 2 given-when not (matchesFit g len) ∷ 4 given-when badPattern g key ∷ []
 
 pub record ArrayOutcome : Type 0 where
   pub answer : Answer

@@ -1,6 +1,6 @@
 -- The six calls on any tables: any geometry, any lengths, any content.
 use Prim.Native.Nat.{ℕ}
-use mathlib.Core.Bool.{Bool, false, not, _&&_, _||_}
+use mathlib.Core.Bool.{Bool, false, not, _||_}
 use mathlib.Core.List.{List, [], _∷_}
 use mathlib.Core.Option as Option
 use mathlib.Core.Option.{Option}
@@ -9,8 +9,9 @@ use lib.ListN.{length, replicate}
 use Rattle.words.specs.Bits.{totalOnes}
 use Rattle.geometry.specs.declared.Geometry.{Geometry}
 use Rattle.geometry.specs.Valid.{valid}
-use Rattle.geometry.specs.Sizes.{patterns, matchWords}
+use Rattle.geometry.specs.Sizes.{patterns}
 use Rattle.geometry.specs.Stages.{indicatorWords}
+use Rattle.geometry.specs.Checks.{tablesFit, matchesFit}
 use Rattle.reference.specs.Entry.{empty, pattern, emptyWord}
 use Rattle.reference.specs.Calls.{Call, clear, write, erase, read, firstMatch, allMatch, Answer, refused, cleared, held, matched, lent}
 use Rattle.reference.specs.Refusals.{Refusal, _given-when_, firstRefusal, badAddress, badPattern}
@@ -18,18 +19,17 @@ use Rattle.reference.specs.Tables.{Tables, storeWord, storeEntry}
 use Rattle.reference.specs.Update.{replaced}
 use Rattle.reference.specs.Search.{isFalse, firstFound, anyIsFalse, answerOf, takenWords}
 
--- "store not D, indicators not R × all rows"
 unfoldable pub badLengths : Geometry → Tables → Bool
-badLengths g t = not (eqb (length (t .store)) (g .depth) && eqb (length (t .indicators)) (indicatorWords g))
+badLengths g t = not (tablesFit g (length (t .store)) (length (t .indicators)))
 
--- "or match word not D / 64 rounded up": the calls with no match word pass.
+-- The calls with no match word pass.
 unfoldable pub badMatches : Geometry → Call (List ℕ) → Bool
 badMatches g clear = false
 badMatches g (write a p) = false
 badMatches g (erase a) = false
 badMatches g (read a) = false
 badMatches g (firstMatch key) = false
-badMatches g (allMatch key m) = not (eqb (length m) (matchWords g))
+badMatches g (allMatch key m) = not (matchesFit g (length m))
 
 -- "the entry at that address is neither empty nor below 2^P"
 unfoldable pub badEntry : Geometry → Tables → ℕ → Bool

@@ -84,15 +84,6 @@ unfolding count
 count-ext zero r s h = refl
 count-ext (suc n) r s h = rw (count-ext n r s (λ i l. h i (omega arith)), h n (omega arith))
 
-pub count-most : (n : ℕ) (r : ℕ → Bool) → count n r ≤ n
-unfolding count
-count-most zero r = omega arith
-count-most (suc n) r = go (r n) (count-most n r)
-  where
-    go : (b : Bool) → count n r ≤ n → count n r + cond b 1 0 ≤ suc n
-    go true h = omega arith
-    go false h = omega arith
-
 pub count-none : (n : ℕ) (r : ℕ → Bool) → Nowhere n r → count n r ≡ 0
 unfolding count
 count-none zero r h = refl
@@ -106,6 +97,15 @@ count-add n (suc m) r = rw (add-suc, count-add n m r, add-assoc)
 -- the lowest place apart from the others
 pub count-front : (n : ℕ) (r : ℕ → Bool) → count (suc n) r ≡ cond (r 0) 1 0 + count n (λ i. r (suc i))
 count-front n r = rw (← one-add n) (count-add 1 n r ∙ unfold count in simp (zero-add, one-add))
+
+pub count-most : (n : ℕ) (r : ℕ → Bool) → count n r ≤ n
+unfolding count
+count-most zero r = omega arith
+count-most (suc n) r = go (r n) (count-most n r)
+  where
+    go : (b : Bool) → count n r ≤ n → count n r + cond b 1 0 ≤ suc n
+    go true h = omega arith
+    go false h = omega arith
 
 pub length-tabulate : (n : ℕ) (f : ℕ → ℕ) → length (tabulate n f) ≡ n
 unfolding tabulate

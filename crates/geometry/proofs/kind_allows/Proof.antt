@@ -1,5 +1,4 @@
 -- `geometry::kind_allows` meets its contract, kind by kind.
-use mathlib.Core.Path.{refl}
 use borrow.Author.Needs.{needs}
 use borrow.Author.Tests.{ne-eqb}
 use Rattle.geometry.specs.Valid.{kindRule}

@@ -7,7 +7,7 @@ use Rattle.geometry.proofs.segmented_allows.Statement.{statement}
 use Rattle.geometry.proofs.segmented_allows.Tie as tie
 
 rem-result : tie.Need-rem-result
-rem-result c = range 1 64 (c .before .before .args .set) (sym (c .before .is-between .ensures) ∙ c .if1 .taken) .0
+rem-result c = range _ _ _ (sym (c .before .is-between .ensures) ∙ c .if1 .taken) .0
 
 returns : tie.Need-returns
 returns c = and-then _ _ _ (c .before .is-between .ensures) (c .if1 .taken)

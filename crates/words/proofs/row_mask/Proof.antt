@@ -15,7 +15,9 @@ returns-2 : tie.Need-returns-2
 returns-2 c = sym (mask-none _ _ (c .if2 .taken))
 
 sub-result : tie.Need-sub-result
-sub-result c = rw (shifted-one 64 (c .before .before .args .places % 64) (omega arith)) (pow-pos _)
+sub-result c =
+    let b = c .before .before .args .places % 64 in
+    rw (shifted-one 64 b (omega arith)) (omega (arith, pow-pos b))
 
 returns-3 : tie.Need-returns-3
 returns-3 c = rw (shifted-one 64 (c .before .before .args .places % 64) (omega arith)) (sym (mask-part _ _ (omega arith)))

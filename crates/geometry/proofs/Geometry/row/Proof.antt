@@ -2,7 +2,7 @@
 use native.Mathlib.Omega.{arith}
 use lib.Pow.{pow-pos}
 use borrow.Author.Needs.{needs}
-use Rattle.geometry.specs.Stages.{stageWidth, stage, rowOf}
+use Rattle.geometry.specs.Stages.{stage, rowOf}
 use Rattle.geometry.proofs.Facts.{facts}
 use Rattle.geometry.proofs.Bounds.{stage-starts, row-few}
 use Rattle.geometry.proofs.Geometry.row.Statement.{statement}

@@ -1,6 +1,4 @@
 -- `geometry::Geometry::rows` meets its contract: 512 rows in each stage but the last, and the last's own.
-use Prim.Native.Nat.{_+_, _-_, _*_}
-use mathlib.Core.Path.{_≡_}
 use native.Mathlib.Omega.{arith}
 use borrow.Author.Needs.{needs}
 use Rattle.geometry.specs.Stages.{rows}

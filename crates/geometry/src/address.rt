@@ -1,5 +1,6 @@
 // An address, a set and an offset in a set, and the one rule between them. Only this module makes them or takes them
-// apart, so that one cannot be taken for another, added to it or compared with it anywhere else.
+// apart, so that anywhere else one cannot be taken for another, added to it or compared with it.
+// Where a function asks for a valid geometry, its caller had sizes from `Geometry::check`.
 use super::Geometry;
 ghost use Prim.Native.Nat.{_+_, _*_, _/_, _%_, _<_};
 ghost use mathlib.Core.Path.{_≡_};
@@ -30,7 +31,7 @@ impl Address {
         self.0
     }
 
-    // The set that it lies in. Who calls shows that the geometry passed its check.
+    // The set that it lies in.
     pub fn set(self, g: Geometry) -> SetIndex
         requires { ⌜ valid g ≡ true ⌝ }
         ensures { λ r. ⌜ r .0 ≡ setOf g (self .0) ⌝ }
@@ -38,7 +39,7 @@ impl Address {
         SetIndex(self.0 / g.set_width)
     }
 
-    // Where it lies in its set. Who calls shows that the geometry passed its check.
+    // Where it lies in its set.
     pub fn offset(self, g: Geometry) -> Offset
         requires { ⌜ valid g ≡ true ⌝ }
         ensures { λ r. ⌜ r .0 ≡ offsetOf g (self .0) ⌝ }
@@ -48,8 +49,8 @@ impl Address {
 }
 
 impl SetIndex {
-    // The set of a bit of a word in a row. Who calls shows that the word is one of a row, which has 64 at most, and the
-    // bit one of a word.
+    // The set that a bit of a row belongs to. The searches show what is asked: a row has 64 words at most, and the bit is
+    // the lowest one of a word that is not 0.
     pub fn of_bit(word: usize, bit: u32) -> Self
         requires { ⌜ (word < 64) × (bit < 64) ⌝ }
         ensures { λ r. ⌜ r .0 ≡ 64 * word + bit ⌝ }
@@ -71,7 +72,8 @@ impl SetIndex {
         self.0 % 64
     }
 
-    // Its address at an offset. Who calls shows that the geometry passed its check and has that set and that offset.
+    // Its address at an offset. The loops over a set show what is asked: padding is dropped, so that the set is one, and
+    // they stay within its width.
     pub fn address(self, at: Offset, g: Geometry) -> Address
         requires { ⌜ (valid g ≡ true) × (self .0 < sets g) × (at .0 < g .«set_width») ⌝ }
         ensures { λ r. ⌜ r .0 ≡ addressOf g (self .0) (at .0) ⌝ }
@@ -87,7 +89,8 @@ impl Offset {
         Offset(0)
     }
 
-    // The next in the set. Who calls shows that it is within a set, which has 64 addresses at most.
+    // The next in the set. The loops over a set show what is asked: they step on from an offset within its width, which is
+    // 64 at most.
     pub fn next(self) -> Self
         requires { ⌜ self .0 < 64 ⌝ }
         ensures { λ r. ⌜ r .0 ≡ self .0 + 1 ⌝ }

@@ -6,7 +6,7 @@ ghost use mathlib.Core.Path.{_≡_};
 ghost use mathlib.Core.Bool.{true};
 ghost use Rattle.geometry.specs.Valid.{between, segmentedRule, kindRule, valid};
 ghost use Rattle.geometry.specs.Sizes.{sets, rowWords};
-ghost use Rattle.geometry.specs.Stages.{stages, stageWidth, rowOf, rows};
+ghost use Rattle.geometry.specs.Stages.{stages, stageWidth, stage, rowOf, rows};
 ghost use Rattle.geometry.specs.Checks.{sizesOf, checked, checkedTables, checkedMatches, numberOf};
 
 // The four numbers, as they come from a file or a caller: nothing is assumed of them.
@@ -36,14 +36,14 @@ pub struct Sizes {
     pub match_words: usize,
 }
 
-// Why a call stops.
+// Why a call stops: a row of document 01's table.
 pub enum Refusal {
     BadGeometry,
     BadLengths,
 }
 
 impl Refusal {
-    // Document 01's number.
+    // The number that document 01 gives it.
     pub fn number(self) -> u32
         ensures { λ r. ⌜ r ≡ numberOf self ⌝ }
     {
@@ -93,84 +93,6 @@ impl Geometry {
             && kind_allows(self.kind, self.depth, self.pattern_width, self.set_width)
     }
 
-    // The stages of a pattern. The check of the geometry shows what is required.
-    fn stages(self) -> u32
-        requires { ⌜ valid self ≡ true ⌝ }
-        ensures { λ r. ⌜ r ≡ stages self ⌝ }
-    {
-        if self.kind == 1 {
-            (self.pattern_width + 8) / 9
-        } else {
-            1
-        }
-    }
-
-    // The bits of stage `k`.
-    fn stage_width(self, k: u32) -> u32
-        requires { ⌜ (valid self ≡ true) × (k < stages self) ⌝ }
-        ensures { λ r. ⌜ r ≡ stageWidth self k ⌝ }
-    {
-        if k + 1 < self.stages() {
-            9
-        } else {
-            self.pattern_width - 9 * k
-        }
-    }
-
-    // The rows of stage `k`.
-    fn stage_rows(self, k: u32) -> u32
-        requires { ⌜ (valid self ≡ true) × (k < stages self) ⌝ }
-        ensures { λ r. ⌜ r ≡ 2 ^ stageWidth self k ⌝ }
-    {
-        1 << self.stage_width(k)
-    }
-
-    // The row of stage `k` of a pattern.
-    pub fn row(self, pattern: u32, k: u32) -> usize
-        requires { ⌜ (valid self ≡ true) × (k < stages self) ⌝ }
-        ensures { λ r. ⌜ r ≡ rowOf self pattern k ⌝ }
-    {
-        (512 * k + (pattern >> (9 * k)) % self.stage_rows(k)) as usize
-    }
-
-    fn sets(self) -> usize
-        requires { ⌜ valid self ≡ true ⌝ }
-        ensures { λ r. ⌜ r ≡ sets self ⌝ }
-    {
-        (self.depth / self.set_width) as usize
-    }
-
-    fn row_words(self) -> usize
-        requires { ⌜ valid self ≡ true ⌝ }
-        ensures { λ r. ⌜ r ≡ rowWords self ⌝ }
-    {
-        (self.sets() + 63) / 64
-    }
-
-    // The rows of all stages.
-    fn rows(self) -> usize
-        requires { ⌜ valid self ≡ true ⌝ }
-        ensures { λ r. ⌜ r ≡ rows self ⌝ }
-    {
-        let last = self.stages() - 1;
-        (512 * last + self.stage_rows(last)) as usize
-    }
-
-    fn sizes(self) -> Sizes
-        requires { ⌜ valid self ≡ true ⌝ }
-        ensures { λ r. ⌜ r ≡ sizesOf self ⌝ }
-    {
-        let row_words = self.row_words();
-        Sizes {
-            patterns: 1 << self.pattern_width,
-            sets: self.sets(),
-            row_words,
-            stages: self.stages(),
-            indicator_words: row_words * self.rows(),
-            match_words: (self.depth as usize + 63) / 64,
-        }
-    }
-
     // The sizes, or refusal 1.
     pub fn check(self) -> Checked
         ensures { λ r. ⌜ r ≡ checked self ⌝ }
@@ -213,6 +135,96 @@ impl Geometry {
                 }
             }
             Checked::Refused(why) => Checked::Refused(why),
+        }
+    }
+}
+
+// What follows from a valid geometry. Each function asks for one. `check` tests it before it calls the private ones; who
+// calls `row` had sizes from a check, and goes through the stages that they count.
+impl Geometry {
+    // Only the cascaded kind cuts a pattern into stages.
+    fn stages(self) -> u32
+        requires { ⌜ valid self ≡ true ⌝ }
+        ensures { λ r. ⌜ r ≡ stages self ⌝ }
+    {
+        if self.kind == 1 {
+            (self.pattern_width + 8) / 9
+        } else {
+            1
+        }
+    }
+
+    // The bits of stage `k`.
+    fn stage_width(self, k: u32) -> u32
+        requires { ⌜ (valid self ≡ true) × (k < stages self) ⌝ }
+        ensures { λ r. ⌜ r ≡ stageWidth self k ⌝ }
+    {
+        if k + 1 < self.stages() {
+            9
+        } else {
+            self.pattern_width - 9 * k
+        }
+    }
+
+    // The rows of stage `k`.
+    fn stage_rows(self, k: u32) -> u32
+        requires { ⌜ (valid self ≡ true) × (k < stages self) ⌝ }
+        ensures { λ r. ⌜ r ≡ 2 ^ stageWidth self k ⌝ }
+    {
+        1 << self.stage_width(k)
+    }
+
+    // The value of stage `k` of a pattern.
+    fn stage(self, k: u32, pattern: u32) -> u32
+        requires { ⌜ (valid self ≡ true) × (k < stages self) ⌝ }
+        ensures { λ r. ⌜ r ≡ stage self k pattern ⌝ }
+    {
+        (pattern >> (9 * k)) % self.stage_rows(k)
+    }
+
+    // The row of stage `k` of a pattern.
+    pub fn row(self, pattern: u32, k: u32) -> usize
+        requires { ⌜ (valid self ≡ true) × (k < stages self) ⌝ }
+        ensures { λ r. ⌜ r ≡ rowOf self pattern k ⌝ }
+    {
+        (512 * k + self.stage(k, pattern)) as usize
+    }
+
+    // The rows of all stages.
+    fn rows(self) -> usize
+        requires { ⌜ valid self ≡ true ⌝ }
+        ensures { λ r. ⌜ r ≡ rows self ⌝ }
+    {
+        let last = self.stages() - 1;
+        (512 * last + self.stage_rows(last)) as usize
+    }
+
+    fn sets(self) -> usize
+        requires { ⌜ valid self ≡ true ⌝ }
+        ensures { λ r. ⌜ r ≡ sets self ⌝ }
+    {
+        (self.depth / self.set_width) as usize
+    }
+
+    fn row_words(self) -> usize
+        requires { ⌜ valid self ≡ true ⌝ }
+        ensures { λ r. ⌜ r ≡ rowWords self ⌝ }
+    {
+        (self.sets() + 63) / 64
+    }
+
+    fn sizes(self) -> Sizes
+        requires { ⌜ valid self ≡ true ⌝ }
+        ensures { λ r. ⌜ r ≡ sizesOf self ⌝ }
+    {
+        let row_words = self.row_words();
+        Sizes {
+            patterns: 1 << self.pattern_width,
+            sets: self.sets(),
+            row_words,
+            stages: self.stages(),
+            indicator_words: row_words * self.rows(),
+            match_words: (self.depth as usize + 63) / 64,
         }
     }
 }

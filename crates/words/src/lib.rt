@@ -6,7 +6,8 @@ ghost use lib.Count.{trailingZeros};
 ghost use Rattle.words.specs.Rules.{count};
 ghost use Rattle.words.specs.Bits.{bit, setBit, clearBit, changeBit, rowMask, totalOnes};
 
-// Bit `bit` of word `at` is set. The caller shows that there is such a word and such a bit.
+// Bit `bit` of word `at` becomes 1. A call that changes a table shows that the table has that word, and that the bit is
+// one of a word.
 pub fn set_bit(words: &mut [u64], at: usize, bit: u32)
     requires { ⌜ (at < length (now words)) × (bit < 64) ⌝ }
     ensures { λ r. ⌜ now (words .exit) ≡ changeBit setBit (now (words .entry)) at bit ⌝ }
@@ -14,7 +15,7 @@ pub fn set_bit(words: &mut [u64], at: usize, bit: u32)
     words[at] = words[at] | (1u64 << bit);
 }
 
-// Bit `bit` of word `at` is cleared. The caller shows that there is such a word and such a bit.
+// Bit `bit` of word `at` becomes 0. What is asked is shown as for `set_bit`.
 pub fn clear_bit(words: &mut [u64], at: usize, bit: u32)
     requires { ⌜ (at < length (now words)) × (bit < 64) ⌝ }
     ensures { λ r. ⌜ now (words .exit) ≡ changeBit clearBit (now (words .entry)) at bit ⌝ }
@@ -22,7 +23,7 @@ pub fn clear_bit(words: &mut [u64], at: usize, bit: u32)
     words[at] = words[at] & !(1u64 << bit);
 }
 
-// The bits of word `word` in a row of `places` places that stand for a place. The others are padding.
+// The mask that drops the padding of a row: the bits of word `word` that stand for one of the row's `places`.
 pub fn row_mask(places: usize, word: usize) -> u64
     ensures { λ r. ⌜ r ≡ rowMask places word ⌝ }
 {
@@ -49,7 +50,7 @@ pub fn ones(word: u64) -> u32
     u64::count_ones(word)
 }
 
-// The ones of all words.
+// The ones of all words. The call that counts its hits shows the bound: a match word has 64 words at most.
 pub fn total_ones(words: &[u64]) -> u32
     requires { ⌜ length (now words) ≤ 64 ⌝ }
     ensures { λ r. ⌜ r ≡ totalOnes (now (words .entry)) ⌝ }

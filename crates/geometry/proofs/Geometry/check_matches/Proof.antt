@@ -10,15 +10,13 @@ use Rattle.geometry.proofs.Geometry.check_matches.Tie as tie
 returns : tie.Need-returns
 unfolding checkedMatches
 returns c =
-    let k = c .before .before .before in
-    let is = sym (k .before .before .check-tables .ensures) ∙ k .checked .given .1 in
+    let is = sym (c .before .before .before .before .before .check-tables .ensures) ∙ c .before .before .before .checked .given .1 in
     lengths-right _ _ _ is (matches-by-sizes _ _ _ (tables-accepted _ _ _ _ is .2) ∙ eq-eqb _ _ (c .if1 .taken))
 
 returns-2 : tie.Need-returns-2
 unfolding checkedMatches
 returns-2 c =
-    let k = c .before .before .before in
-    let is = sym (k .before .before .check-tables .ensures) ∙ k .checked .given .1 in
+    let is = sym (c .before .before .before .before .before .check-tables .ensures) ∙ c .before .before .before .checked .given .1 in
     lengths-wrong _ _ _ is (matches-by-sizes _ _ _ (tables-accepted _ _ _ _ is .2) ∙ ne-eqb _ _ (c .if1 .left))
 
 returns-3 : tie.Need-returns-3

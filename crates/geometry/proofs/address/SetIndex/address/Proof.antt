@@ -1,22 +1,22 @@
--- `geometry::address::SetIndex::address` meets its contract: an address is below the depth.
+-- `geometry::address::SetIndex::address` meets its contract: an address is below the depth, so nothing wraps.
+use Prim.Native.Nat.{ℕ, _<_}
+use mathlib.Core.Path.{_≡_}
+use mathlib.Core.Bool.{true}
 use native.Mathlib.Omega.{arith}
 use borrow.Author.Needs.{needs}
+use Rattle.geometry.specs.declared.Geometry.{Geometry}
+use Rattle.geometry.specs.Valid.{valid}
+use Rattle.geometry.specs.Sizes.{sets, addressOf}
 use Rattle.geometry.proofs.Facts.{facts}
 use Rattle.geometry.proofs.Places.{address-lt}
 use Rattle.geometry.proofs.address.SetIndex.address.Statement.{statement}
 use Rattle.geometry.proofs.address.SetIndex.address.Tie as tie
 
-mul-t4 : tie.Need-mul-t4
-mul-t4 c =
-    let s = c .before .before in
-    let f = facts _ (s .pre .0) in
-    omega (arith, address-lt _ f _ _ (s .pre .1) (s .pre .2))
-
-add-t5 : tie.Need-add-t5
-add-t5 c =
-    let s = c .before .before .before in
-    let f = facts _ (s .pre .0) in
-    omega (arith, address-lt _ f _ _ (s .pre .1) (s .pre .2))
+small : (g : Geometry) (s o : ℕ) → (valid g ≡ true) × (s < sets g) × (o < g .«set_width») → addressOf g s o < 4096
+small g s o (ok, inside, within) = let f = facts g ok in omega (arith, address-lt g f s o inside within)
 
 pub address-spec : {M : Type 1} → statement M
-address-spec = tie.close (tie.spec mul-t4 add-t5 (λ c. search needs))
+address-spec =
+    tie.close
+    (tie.spec (λ c. omega (arith, small _ _ _ (c .before .before .pre))) (λ c. omega (arith, small _ _ _ (c .before .before .before .pre)))
+    (λ c. search needs))

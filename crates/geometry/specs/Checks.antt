@@ -12,10 +12,12 @@ use Rattle.geometry.specs.Valid.{valid}
 use Rattle.geometry.specs.Sizes.{patterns, sets, rowWords, matchWords}
 use Rattle.geometry.specs.Stages.{stages, indicatorWords}
 
+-- Document 01's numbers.
 abbrev pub numberOf : Refusal → ℕ
 numberOf BadGeometry = 1
 numberOf BadLengths = 2
 
+-- All sizes of a geometry.
 unfoldable pub sizesOf : Geometry → Sizes
 sizesOf g = record {
   patterns = patterns g;
@@ -26,21 +28,21 @@ sizesOf g = record {
   «match_words» = matchWords g;
 }
 
--- The sizes where the four numbers are a geometry.
+-- Refusal 1 where the four numbers are no geometry.
 unfoldable pub checked : Geometry → Checked
 checked g = cond (valid g) (Accepted (sizesOf g)) (Refused BadGeometry)
 
--- The same, where the lengths are right too.
+-- Refusal 2 where the lengths are not right, and 1 was not given.
 unfoldable pub andLengths : Checked → (right : Bool) → Checked
 andLengths (Accepted sizes) true = Accepted sizes
 andLengths (Accepted sizes) false = Refused BadLengths
 andLengths (Refused why) right = Refused why
 
--- "store not D, indicators not R × all rows"
+-- Lengths are refused with 2 where these are false: "store not D, indicators not R × all rows, or match word not D / 64
+-- rounded up".
 abbrev pub tablesFit : Geometry → (store indicators : ℕ) → Bool
 tablesFit g store indicators = eqb store (g .depth) && eqb indicators (indicatorWords g)
 
--- "or match word not D / 64 rounded up"
 abbrev pub matchesFit : Geometry → (matches : ℕ) → Bool
 matchesFit g matches = eqb matches (matchWords g)
 

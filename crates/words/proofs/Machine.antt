@@ -1,8 +1,8 @@
--- What the operations of the code give: at any width k a shifted one, a set bit, a cleared bit and the count of ones;
--- and the three cases of a row's mask.
+-- What the operations of the code give: at any width k a shifted one, a set bit, a cleared bit and the count of ones; the
+-- three cases of a row's mask; and the steps of the loop that counts.
 use Prim.Native.Nat.{ℕ, zero, suc, _+_, _-_, _*_, _/_, _%_, _^_, _<_, _≤_, min}
 use mathlib.Core.Path.{_≡_, refl, sym, _∙_}
-use mathlib.Core.Bool.{Bool, true, false, not, _&&_}
+use mathlib.Core.Bool.{Bool, true, false, not, _&&_, and-comm}
 use mathlib.Core.List.{List}
 use native.Mathlib.Nat.{one-mul, mod-eq-of-lt, pow-suc}
 use native.Mathlib.Numerals.{add-one}
@@ -30,18 +30,12 @@ pub clear-is : (k n b : ℕ) → n < 2 ^ k → b < k → bitAnd n ((2 ^ k - 1) -
 clear-is k n b hn h =
     bits-equal _ _ (λ i. bit-and n _ i ∙ rw (shifted-one k b h, bit-not k (2 ^ b) i (pow-lt h), bit-pow b i, bit-clear n b i) (at i (ltb i k) refl))
   where
-    swap : (x y : Bool) → x && y ≡ y && x
-    swap true true = refl
-    swap true false = refl
-    swap false true = refl
-    swap false false = refl
-
     -- from the width on there is no bit to keep
     at : (i : ℕ) (l : Bool) → ltb i k ≡ l → bit n i && (l && not (eqb i b)) ≡ not (eqb i b) && bit n i
-    at i true e = swap (bit n i) (not (eqb i b))
-    at i false e = rw (bit-out k n i hn (ltb-false i k e)) (swap false (not (eqb i b)))
+    at i true e = and-comm (bit n i) (not (eqb i b))
+    at i false e = rw (bit-out k n i hn (ltb-false i k e)) (and-comm false (not (eqb i b)))
 
--- a number of k bits has as many ones as it has bits
+-- the machine's count of ones is the number of positions whose bit is 1
 pub ones-is : (k n : ℕ) → n < 2 ^ k → ones n ≡ count k (bit n)
 unfolding count
 ones-is zero n h = let e : n ≡ 0 = omega arith in rw e (unfold ones onesIn in refl)

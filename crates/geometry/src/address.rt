@@ -1,6 +1,5 @@
 // An address, a set and an offset in a set, and the one rule between them. Only this module makes them or takes them
 // apart, so that anywhere else one cannot be taken for another, added to it or compared with it.
-// Where a function asks for a valid geometry, its caller had sizes from `Geometry::check`.
 use super::Geometry;
 ghost use Prim.Native.Nat.{_+_, _*_, _/_, _%_, _<_};
 ghost use mathlib.Core.Path.{_≡_};
@@ -31,7 +30,7 @@ impl Address {
         self.0
     }
 
-    // The set that it lies in.
+    // The set that it lies in. The check of the call shows that the geometry is valid.
     pub fn set(self, g: Geometry) -> SetIndex
         requires { ⌜ valid g ≡ true ⌝ }
         ensures { λ r. ⌜ r .0 ≡ setOf g (self .0) ⌝ }
@@ -39,7 +38,7 @@ impl Address {
         SetIndex(self.0 / g.set_width)
     }
 
-    // Where it lies in its set.
+    // Where it lies in its set. The check of the call shows that the geometry is valid.
     pub fn offset(self, g: Geometry) -> Offset
         requires { ⌜ valid g ≡ true ⌝ }
         ensures { λ r. ⌜ r .0 ≡ offsetOf g (self .0) ⌝ }
@@ -72,8 +71,8 @@ impl SetIndex {
         self.0 % 64
     }
 
-    // Its address at an offset. The loops over a set show what is asked: padding is dropped, so that the set is one, and
-    // they stay within its width.
+    // Its address at an offset. The check of the call shows that the geometry is valid. The loops over a set show the rest:
+    // padding is dropped, so that the set is one, and they stay within its width.
     pub fn address(self, at: Offset, g: Geometry) -> Address
         requires { ⌜ (valid g ≡ true) × (self .0 < sets g) × (at .0 < g .«set_width») ⌝ }
         ensures { λ r. ⌜ r .0 ≡ addressOf g (self .0) (at .0) ⌝ }

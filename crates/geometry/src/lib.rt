@@ -139,8 +139,8 @@ impl Geometry {
     }
 }
 
-// What follows from a valid geometry. Each function asks for one. `check` tests it before it calls the private ones; who
-// calls `row` had sizes from a check, and goes through the stages that they count.
+// What follows from a valid geometry. Each function asks for one, and `check` tests that before it calls them. Where a
+// stage is asked for, `rows` shows that the last is one, and who calls `row` that its own is.
 impl Geometry {
     // Only the cascaded kind cuts a pattern into stages.
     fn stages(self) -> u32
@@ -182,7 +182,8 @@ impl Geometry {
         (pattern >> (9 * k)) % self.stage_rows(k)
     }
 
-    // The row of stage `k` of a pattern.
+    // The row of stage `k` of a pattern. The check of the call shows that the geometry is valid, and its loop goes through
+    // the stages that the sizes count.
     pub fn row(self, pattern: u32, k: u32) -> usize
         requires { ⌜ (valid self ≡ true) × (k < stages self) ⌝ }
         ensures { λ r. ⌜ r ≡ rowOf self pattern k ⌝ }

@@ -11,7 +11,8 @@ use Rattle.geometry.specs.declared.Refusal.the-variants.{BadGeometry, Ba
 use Rattle.geometry.specs.declared.Checked.{Checked}
 use Rattle.geometry.specs.declared.Checked.the-variants.{Accepted, Refused}
 use Rattle.geometry.specs.Valid.{valid}
-use Rattle.geometry.specs.Checks.{sizesOf, checked, andLengths, tablesFit, matchesFit, checkedTables}
+use Rattle.geometry.specs.Sizes.{matchWords}
+use Rattle.geometry.specs.Checks.{sizesOf, checked, andLengths, tablesFit, checkedTables}
 
 pub checked-accepted : (g : Geometry) (s : Sizes) → checked g ≡ Accepted s → (valid g ≡ true) × (s ≡ sizesOf g)
 unfolding checked
@@ -41,7 +42,7 @@ pub tables-by-sizes : (g : Geometry) (s : Sizes) (store indicators : ℕ) → s 
 unfolding sizesOf
 tables-by-sizes g s store indicators e = rw e
 
-pub matches-by-sizes : (g : Geometry) (s : Sizes) (matches : ℕ) → s ≡ sizesOf g → matchesFit g matches ≡ eqb matches (s .«match_words»)
+pub matches-by-sizes : (g : Geometry) (s : Sizes) (matches : ℕ) → s ≡ sizesOf g → eqb matches (matchWords g) ≡ eqb matches (s .«match_words»)
 unfolding sizesOf
 matches-by-sizes g s matches e = rw e
 

@@ -38,16 +38,12 @@ andLengths (Accepted sizes) true = Accepted sizes
 andLengths (Accepted sizes) false = Refused BadLengths
 andLengths (Refused why) right = Refused why
 
--- Lengths are refused with 2 where these are false: "store not D, indicators not R × all rows, or match word not D / 64
--- rounded up".
+-- "store not D, indicators not R × all rows" is where this is false.
 abbrev pub tablesFit : Geometry → (store indicators : ℕ) → Bool
 tablesFit g store indicators = eqb store (g .depth) && eqb indicators (indicatorWords g)
-
-abbrev pub matchesFit : Geometry → (matches : ℕ) → Bool
-matchesFit g matches = eqb matches (matchWords g)
 
 unfoldable pub checkedTables : Geometry → (store indicators : ℕ) → Checked
 checkedTables g store indicators = andLengths (checked g) (tablesFit g store indicators)
 
 unfoldable pub checkedMatches : Geometry → (store indicators matches : ℕ) → Checked
-checkedMatches g store indicators matches = andLengths (checkedTables g store indicators) (matchesFit g matches)
+checkedMatches g store indicators matches = andLengths (checkedTables g store indicators) (eqb matches (matchWords g))

@@ -22,7 +22,7 @@ use Rattle.geometry.specs.Sizes.{patterns, matchWords}
 use Rattle.geometry.proofs.Facts.{Facts, facts}
 use Rattle.reference.specs.Entry.{Entry, empty, pattern, Fits, wordOf, holds}
 use Rattle.reference.specs.Calls.{Call, clear, write, erase, read, firstMatch, allMatch, shape, held, matched}
-use Rattle.reference.specs.Refusals.{Refusal, _given-when_, firstRefusal, Passed, badAddress, badPattern}
+use Rattle.reference.specs.Refusals.{RefusalRow, _given-when_, firstRefusal, Passed, badAddress, badPattern}
 use Rattle.reference.specs.Array as Array
 use Rattle.reference.specs.Array.{Array, entryAt, counted, matchesOf, hits, arrayRefusals, ArrayOutcome, arrayAccepted, arrayOutcome, arrayStep, Sound}
 use Rattle.reference.specs.Tables.{storeWord}
@@ -41,14 +41,14 @@ use Rattle.reference.proofs.Refused.{passes}
 use Rattle.reference.proofs.Emptied.{emptied-sound, cleared-tables}
 
 -- a last row that does not apply
-last-passes : (rows : List Refusal) (n : ℕ) → firstRefusal (rows ++ (n given-when false ∷ [])) ≡ firstRefusal rows
+last-passes : (rows : List RefusalRow) (n : ℕ) → firstRefusal (rows ++ (n given-when false ∷ [])) ≡ firstRefusal rows
 unfolding firstRefusal
 last-passes [] n = refl
 last-passes ((m given-when true) ∷ rows) n = refl
 last-passes ((m given-when false) ∷ rows) n = last-passes rows n
 
 -- a last row that does not apply where the pattern's row does not
-key-passes : (g : Geometry) (key n : ℕ) (test : Bool) → (key < patterns g → test ≡ false) → (rows : List Refusal)
+key-passes : (g : Geometry) (key n : ℕ) (test : Bool) → (key < patterns g → test ≡ false) → (rows : List RefusalRow)
     → firstRefusal (rows ++ (4 given-when badPattern g key ∷ n given-when test ∷ [])) ≡ firstRefusal (rows ++ (4 given-when badPattern g key ∷ []))
 unfolding firstRefusal
 key-passes g key n test h [] = go (badPattern g key) refl

@@ -15,7 +15,7 @@ use Rattle.geometry.specs.Valid.{valid}
 use Rattle.geometry.proofs.Facts.{facts}
 use Rattle.reference.specs.Entry.{empty}
 use Rattle.reference.specs.Calls.{Call, clear, write, erase, read, firstMatch, allMatch, shape, lent, matchesAfter, Answer, refused, cleared}
-use Rattle.reference.specs.Refusals.{Refusal, _given-when_, firstRefusal, Passed, FirstApplies}
+use Rattle.reference.specs.Refusals.{RefusalRow, _given-when_, firstRefusal, Passed, FirstApplies}
 use Rattle.reference.specs.Array.{Array, emptied, arrayRefusals, arrayAccepted, arrayOutcome, arrayStep, Sound}
 use Rattle.reference.specs.Tables.{Tables, storeEntry}
 use Rattle.reference.specs.Image.{tablesOf}
@@ -95,7 +95,7 @@ equal-tables g t u cs ds e d =
 -- ---- which numbers a later call can get
 
 -- every row says P of its number where its test holds
-abbrev Each : (ℕ → Type 0) → List Refusal → Type 0
+abbrev Each : (ℕ → Type 0) → List RefusalRow → Type 0
 Each P [] = Unit
 Each P ((n given-when test) ∷ rest) = (test ≡ true → P n) × Each P rest
 
@@ -108,7 +108,7 @@ later-refusals g t cs c n e h =
     refusal-first _ n (sym (same-refusals g (clear-valid g t e) _ (array-sound g t cs e) c) ∙ given)
 
 -- what each row says when its test holds, the row that is given says
-given-says : (P : ℕ → Type 0) (rows : List Refusal) (n : ℕ) → Each P rows → firstRefusal rows ≡ Option.some n → P n
+given-says : (P : ℕ → Type 0) (rows : List RefusalRow) (n : ℕ) → Each P rows → firstRefusal rows ≡ Option.some n → P n
 unfolding firstRefusal
 given-says P [] n each e = absurd (let z : _≡_ {A = ℕ} 0 1 = cc in omega arith)
 given-says P ((m given-when true) ∷ rest) n each e = let same : m ≡ n = cc in rw same at (each .0 refl)

@@ -12,10 +12,9 @@ use Rattle.words.specs.Bits.{word}
 use Rattle.geometry.specs.declared.Geometry.{Geometry}
 use Rattle.geometry.specs.Valid.{segmented}
 use Rattle.geometry.specs.Sizes.{rowWords, matchWords, offsetOf}
-use Rattle.geometry.specs.Checks.{matchesFit}
 use Rattle.reference.specs.Entry.{Entry, empty, pattern, Fits, holds}
 use Rattle.reference.specs.Calls.{Call, clear, write, erase, read, firstMatch, allMatch, Answer, refused, cleared, held, at, none, matched}
-use Rattle.reference.specs.Refusals.{Refusal, _given-when_, firstRefusal, badAddress, badPattern}
+use Rattle.reference.specs.Refusals.{RefusalRow, _given-when_, firstRefusal, badAddress, badPattern}
 
 -- "Its state is D entries, each empty or a pattern." Sound arrays are of that kind; every history leaves one.
 abbrev pub Array : Type 0
@@ -52,13 +51,13 @@ hits key [] = 0
 hits key (e ∷ es) = cond (holds e key) 1 0 + hits key es
 
 -- "It refuses with 3, 4 and, for an all-match word of wrong length, 2, in the order below."
-unfoldable pub arrayRefusals : Geometry → Call ℕ → List Refusal
+unfoldable pub arrayRefusals : Geometry → Call ℕ → List RefusalRow
 arrayRefusals g clear = []
 arrayRefusals g (write a p) = 3 given-when badAddress g a ∷ 4 given-when badPattern g p ∷ []
 arrayRefusals g (erase a) = 3 given-when badAddress g a ∷ []
 arrayRefusals g (read a) = 3 given-when badAddress g a ∷ []
 arrayRefusals g (firstMatch key) = 4 given-when badPattern g key ∷ []
-arrayRefusals g (allMatch key len) = 2 given-when not (matchesFit g len) ∷ 4 given-when badPattern g key ∷ []
+arrayRefusals g (allMatch key len) = 2 given-when not (eqb len (matchWords g)) ∷ 4 given-when badPattern g key ∷ []
 
 pub record ArrayOutcome : Type 0 where
   pub answer : Answer

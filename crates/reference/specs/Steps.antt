@@ -9,34 +9,35 @@ use lib.ListN.{length, replicate}
 use Rattle.words.specs.Bits.{totalOnes}
 use Rattle.geometry.specs.declared.Geometry.{Geometry}
 use Rattle.geometry.specs.Valid.{valid}
-use Rattle.geometry.specs.Sizes.{patterns}
+use Rattle.geometry.specs.Sizes.{patterns, matchWords}
 use Rattle.geometry.specs.Stages.{indicatorWords}
-use Rattle.geometry.specs.Checks.{tablesFit, matchesFit}
+use Rattle.geometry.specs.Checks.{tablesFit}
 use Rattle.reference.specs.Entry.{empty, pattern, emptyWord}
 use Rattle.reference.specs.Calls.{Call, clear, write, erase, read, firstMatch, allMatch, Answer, refused, cleared, held, matched, lent}
-use Rattle.reference.specs.Refusals.{Refusal, _given-when_, firstRefusal, badAddress, badPattern}
+use Rattle.reference.specs.Refusals.{RefusalRow, _given-when_, firstRefusal, badAddress, badPattern}
 use Rattle.reference.specs.Tables.{Tables, storeWord, storeEntry}
 use Rattle.reference.specs.Update.{replaced}
 use Rattle.reference.specs.Search.{isFalse, firstFound, anyIsFalse, answerOf, takenWords}
 
+-- "store not D, indicators not R × all rows"
 unfoldable pub badLengths : Geometry → Tables → Bool
 badLengths g t = not (tablesFit g (length (t .store)) (length (t .indicators)))
 
--- The calls with no match word pass.
+-- "or match word not D / 64 rounded up": the calls with no match word pass.
 unfoldable pub badMatches : Geometry → Call (List ℕ) → Bool
 badMatches g clear = false
 badMatches g (write a p) = false
 badMatches g (erase a) = false
 badMatches g (read a) = false
 badMatches g (firstMatch key) = false
-badMatches g (allMatch key m) = not (matchesFit g (length m))
+badMatches g (allMatch key m) = not (eqb (length m) (matchWords g))
 
 -- "the entry at that address is neither empty nor below 2^P"
 unfoldable pub badEntry : Geometry → Tables → ℕ → Bool
 badEntry g t a = not (eqb (storeWord t a) emptyWord || ltb (storeWord t a) (patterns g))
 
 -- Rows 3 to 6 of the table at a call.
-unfoldable pub ownRefusals : Geometry → Tables → Call (List ℕ) → List Refusal
+unfoldable pub ownRefusals : Geometry → Tables → Call (List ℕ) → List RefusalRow
 ownRefusals g t clear = []
 ownRefusals g t (write a p) = 3 given-when badAddress g a ∷ 4 given-when badPattern g p ∷ 5 given-when badEntry g t a ∷ []
 ownRefusals g t (erase a) = 3 given-when badAddress g a ∷ 5 given-when badEntry g t a ∷ []
@@ -45,7 +46,7 @@ ownRefusals g t (firstMatch key) = 4 given-when badPattern g key ∷ 6 given-whe
 ownRefusals g t (allMatch key m) = 4 given-when badPattern g key ∷ 6 given-when anyIsFalse g t key ∷ []
 
 -- The whole table at a call.
-unfoldable pub refusals : Geometry → Tables → Call (List ℕ) → List Refusal
+unfoldable pub refusals : Geometry → Tables → Call (List ℕ) → List RefusalRow
 refusals g t c = 1 given-when not (valid g) ∷ 2 given-when (badLengths g t || badMatches g c) ∷ ownRefusals g t c
 
 -- What a call leaves: its answer, both tables, and the match word that it was lent.

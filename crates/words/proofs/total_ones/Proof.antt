@@ -17,29 +17,11 @@ Inv-loop words total₀ i₀ total i = (i ≤ length words) × (total + totalOne
 abbrev μ-loop : tie.MeasureT-loop
 μ-loop words total₀ i₀ total i = length words - i
 
-loop-holds : tie.Need-loop-holds Inv-loop μ-loop
-loop-holds c = search needs
-
-mul-ones : tie.Need-mul-ones Inv-loop μ-loop
-mul-ones c = search needs
-
-shared-slice-read-ones : tie.Need-shared-slice-read-ones Inv-loop μ-loop
-shared-slice-read-ones c = search needs
-
-ones-requires : tie.Need-ones-requires Inv-loop μ-loop
-ones-requires c κs = search needs
-
 add-total : tie.Need-add-total Inv-loop μ-loop
 add-total c =
     let ws = c .before .before .before .before .before .args .words .now in
     let i = c .before .before .before .loop .i in
     omega (arith, c .ones .ensures, count-most 64 (bit (getD ws i 0)))
-
-add-i : tie.Need-add-i Inv-loop μ-loop
-add-i c = search needs
-
-loop-less : tie.Need-loop-less Inv-loop μ-loop
-loop-less c = search needs
 
 loop-again : tie.Need-loop-again Inv-loop μ-loop
 loop-again c =
@@ -53,15 +35,5 @@ returns c = omega (arith, left-none (c .before .before .before .args .words .now
 pub total-ones-spec : {M : Type 1} → statement M
 total-ones-spec =
     tie.close
-    (tie.spec
-    Inv-loop
-    μ-loop
-    loop-holds
-    mul-ones
-    shared-slice-read-ones
-    ones-requires
-    add-total
-    add-i
-    loop-less
-    loop-again
-    returns)
+    (tie.spec Inv-loop μ-loop (λ c. search needs) (λ c. search needs) (λ c. search needs) (λ c κs. search needs) add-total (λ c. search needs)
+    (λ c. search needs) loop-again returns)

@@ -5,7 +5,7 @@ use lib.Dec.{eqb}
 use Rattle.geometry.specs.declared.Geometry.{Geometry}
 use Rattle.geometry.specs.declared.Sizes.{Sizes}
 use Rattle.geometry.specs.declared.Refusal.{Refusal}
-use Rattle.geometry.specs.declared.Refusal.the-variants.{BadGeometry, BadLengths}
+use Rattle.geometry.specs.declared.Refusal.the-variants.{BadGeometry, BadLengths, BadAddress, BadPattern, BadEntry, FalseSet}
 use Rattle.geometry.specs.declared.Checked.{Checked}
 use Rattle.geometry.specs.declared.Checked.the-variants.{Accepted, Refused}
 use Rattle.geometry.specs.Valid.{valid}
@@ -16,6 +16,10 @@ use Rattle.geometry.specs.Stages.{stages, indicatorWords}
 abbrev pub numberOf : Refusal → ℕ
 numberOf BadGeometry = 1
 numberOf BadLengths = 2
+numberOf BadAddress = 3
+numberOf BadPattern = 4
+numberOf BadEntry = 5
+numberOf FalseSet = 6
 
 -- All sizes of a geometry.
 unfoldable pub sizesOf : Geometry → Sizes

@@ -40,6 +40,10 @@ pub struct Sizes {
 pub enum Refusal {
     BadGeometry,
     BadLengths,
+    BadAddress,
+    BadPattern,
+    BadEntry,
+    FalseSet,
 }
 
 impl Refusal {
@@ -50,6 +54,10 @@ impl Refusal {
         match self {
             Refusal::BadGeometry => 1,
             Refusal::BadLengths => 2,
+            Refusal::BadAddress => 3,
+            Refusal::BadPattern => 4,
+            Refusal::BadEntry => 5,
+            Refusal::FalseSet => 6,
         }
     }
 }

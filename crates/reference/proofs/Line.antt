@@ -22,7 +22,7 @@ module _ (g : Geometry) (store : List ℕ) (s : ℕ) where
   line-refused e = rw e
 
   module _ (ok : valid g ≡ true) (long : length store ≡ g .depth) (inside : s < sets g) where
-    true-line : line g store s ≡ take (g .«set_width») (drop (addressOf g s 0) store)
+    pub true-line : line g store s ≡ take (g .«set_width») (drop (addressOf g s 0) store)
     unfolding line
     true-line = rw (ok, eq-eqb (length store) (g .depth) long, lt-ltb s (sets g) inside)
 

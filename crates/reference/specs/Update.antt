@@ -23,10 +23,13 @@ othersCover g t a r =
     any (g .«set_width»)
     (λ o. not (eqb (addressOf g (setOf g a) o) a) && covers g (storeEntry g t (addressOf g (setOf g a) o)) r)
 
--- The rows that address a gives up when its next entry covers `next`: those of its entry that neither `next` nor another
--- address of the set covers.
+-- Whether neither the rows of the next entry nor another address of the set cover the row.
+abbrev pub isReleased : Geometry → Tables → (a : ℕ) → (next : List ℕ) → (row : ℕ) → Bool
+isReleased g t a next r = not (member r next) && not (othersCover g t a r)
+
+-- The rows of its entry that address a gives up when its next entry covers `next`.
 unfoldable pub released : Geometry → Tables → (a : ℕ) → (next : List ℕ) → List ℕ
-released g t a next = keep (λ r. not (member r next) && not (othersCover g t a r)) (entryRows g (storeEntry g t a))
+released g t a next = keep (isReleased g t a next) (entryRows g (storeEntry g t a))
 
 -- The rows of the next entry are set in the set of a, those given up are cleared, and then the store holds the entry.
 -- An erase is the coming of an empty entry, which has no rows.

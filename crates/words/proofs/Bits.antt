@@ -118,6 +118,9 @@ module _ (op : ℕ → ℕ → ℕ) (g : Bool → Bool → Bool)
 pub bit-and : (a b i : ℕ) → bit (bitAnd a b) i ≡ (bit a i && bit b i)
 bit-and = bit-op bitAnd _&&_ and-shr and-mod refl refl refl refl
 
+pub bit-or : (a b i : ℕ) → bit (bitOr a b) i ≡ (bit a i || bit b i)
+bit-or = bit-op bitOr _||_ or-shr or-mod refl refl refl refl
+
 pub bit-set : (n i j : ℕ) → bit (setBit n i) j ≡ (eqb j i || bit n j)
 unfolding setBit
 bit-set n i j = bit-op bitOr (λ x y. y || x) or-shr or-mod refl refl refl refl n (2 ^ i) j ∙ rw bit-pow
@@ -127,6 +130,19 @@ unfolding clearBit
 bit-clear n i j =
     bit-op (λ a b. bitXor (bitOr a b) b) (λ x y. not y && x) (λ a b k. rw (xor-shr, or-shr)) (λ a b k. rw (xor-mod, or-mod)) refl refl refl refl n (2 ^ i) j
     ∙ rw bit-pow
+
+-- A number is larger than itself with a set bit cleared: by its halves, down to that bit.
+pub clear-lt : (n i : ℕ) → bit n i ≡ true → clearBit n i < n
+clear-lt n zero h =
+    let half : clearBit n 0 / 2 ≡ n / 2 = bits-equal _ _ (λ j. rw (← bit-suc, bit-clear, eqb·suc-zero) (bit-suc n j)) in
+    let low : clearBit n 0 % 2 ≡ 0 = sym (low-of-bit (clearBit n 0)) ∙ rw bit-clear in
+    let odd : 1 ≡ n % 2 = rw h at (low-of-bit n) in
+    omega arith
+clear-lt n (suc i) h =
+    let half : clearBit n (suc i) / 2 ≡ clearBit (n / 2) i = bits-equal _ _ (λ j. rw (← bit-suc, bit-clear n (suc i), bit-clear (n / 2) i, eqb·suc-suc, bit-suc n j)) in
+    let low : clearBit n (suc i) % 2 ≡ n % 2 = sym (low-of-bit (clearBit n (suc i))) ∙ rw (bit-clear, eqb·zero-suc) (low-of-bit n) in
+    let less : clearBit (n / 2) i < n / 2 = clear-lt (n / 2) i (rw bit-suc at h) in
+    omega arith
 
 -- Every bit of some words after one of them is changed. f changes bit b of a word as op does, told whether b is the bit
 -- meant; setting and clearing are two such changes.

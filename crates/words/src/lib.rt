@@ -1,7 +1,7 @@
 // Bits of 64-bit words and of slices of words. Nothing here knows of memories.
 ghost use Prim.Native.Nat.{_<_, _≤_};
 ghost use mathlib.Core.Path.{_≡_};
-ghost use lib.ListN.{length};
+ghost use lib.ListN.{length, replicate};
 ghost use lib.Count.{trailingZeros};
 ghost use Rattle.words.specs.Rules.{count};
 ghost use Rattle.words.specs.Bits.{bit, setBit, clearBit, changeBit, rowMask, totalOnes};
@@ -20,7 +20,15 @@ pub fn clear_bit(words: &mut [u64], at: usize, bit: u32)
     requires { ⌜ (at < length (now words)) × (bit < 64) ⌝ }
     ensures { λ r. ⌜ now (words .exit) ≡ changeBit clearBit (now (words .entry)) at bit ⌝ }
 {
-    words[at] = words[at] & !(1u64 << bit);
+    words[at] = without_bit(words[at], bit);
+}
+
+// A word with bit `bit` cleared. What is asked is shown as for `set_bit`.
+pub fn without_bit(word: u64, bit: u32) -> u64
+    requires { ⌜ bit < 64 ⌝ }
+    ensures { λ r. ⌜ r ≡ clearBit word bit ⌝ }
+{
+    word & !(1u64 << bit)
 }
 
 // The mask that drops the padding of a row: the bits of word `word` that stand for one of the row's `places`.
@@ -41,6 +49,17 @@ pub fn lowest_bit(word: u64) -> u32
     ensures { λ r. ⌜ r ≡ trailingZeros 64 word ⌝ }
 {
     u64::trailing_zeros(word)
+}
+
+// Every word becomes 0.
+pub fn zero_all(words: &mut [u64])
+    ensures { λ r. ⌜ now (words .exit) ≡ replicate (length (now (words .entry))) 0 ⌝ }
+{
+    let mut i = 0;
+    while i < words.len() {
+        words[i] = 0;
+        i += 1;
+    }
 }
 
 // The ones of a word.

@@ -1,0 +1,11 @@
+pub mod Stops
+pub mod Walk
+pub mod Seeking
+pub mod Outcomes
+pub mod Elements
+pub mod Tested
+pub mod Marking
+pub mod FalseSets
+pub mod Performing
+pub mod CodeHistory
+pub mod RowsChanged

@@ -1,0 +1,4 @@
+pub mod Answers
+pub mod Passed
+pub mod Marks
+pub mod Runs

@@ -1,0 +1,227 @@
+// The six calls and the line, over lent tables. Each gives the answer of its step in `reference` and leaves its tables, for
+// every input: any geometry, tables of any length and content.
+mod collect;
+mod search;
+mod stored;
+mod update;
+
+use geometry::Checked;
+use geometry::Geometry;
+use geometry::Refusal;
+use geometry::address::Address;
+use geometry::address::Offset;
+use geometry::address::SetIndex;
+ghost use mathlib.Core.Path.{_≡_};
+ghost use mathlib.Core.List.{[]};
+ghost use Rattle.reference.specs.Calls.{clear, write, erase, read, firstMatch, allMatch};
+ghost use Rattle.reference.specs.Steps.{step};
+ghost use Rattle.reference.specs.Line.{line};
+ghost use Rattle.memory.specs.Answers.{tables, left, callFor, Performed};
+
+// What an address holds.
+pub enum Entry {
+    Empty,
+    Pattern(u32),
+}
+
+// A call, with its address and its pattern.
+pub enum Call {
+    Clear,
+    Write(Address, u32),
+    Erase(Address),
+    Read(Address),
+    FirstMatch(u32),
+    AllMatch(u32),
+}
+
+// What comes back. Document 01's w is `words_read`, its c `entries_compared`.
+pub enum Answer {
+    Refused(Refusal),
+    Cleared,
+    // The entry that the address has, or had before the call.
+    Held(Entry),
+    At {
+        address: Address,
+        words_read: u16,
+        entries_compared: u16,
+    },
+    None {
+        words_read: u16,
+    },
+    // The match word itself is in the lent one.
+    Matched {
+        hits: u32,
+    },
+}
+
+// Empties every address.
+pub fn clear(g: Geometry, store: &mut [u32], indicators: &mut [u64]) -> Answer
+    ensures { λ r. ⌜ left r (now (store .exit)) (now (indicators .exit)) [] ≡ step g (tables (now (store .entry)) (now (indicators .entry))) clear ⌝ }
+{
+    let checked = g.check_tables(store.len(), indicators.len());
+    match checked {
+        Checked::Accepted(_) => {
+            stored::empty_all(store);
+            words::zero_all(indicators);
+            Answer::Cleared
+        }
+        Checked::Refused(why) => Answer::Refused(why),
+    }
+}
+
+// The pattern comes to the address; gives the former entry.
+pub fn write(
+    g: Geometry,
+    store: &mut [u32],
+    indicators: &mut [u64],
+    address: Address,
+    pattern: u32,
+) -> Answer
+    ensures { λ r. ⌜ left r (now (store .exit)) (now (indicators .exit)) [] ≡ step g (tables (now (store .entry)) (now (indicators .entry))) (write (address .0) pattern) ⌝ }
+{
+    let checked = g.check_tables(store.len(), indicators.len());
+    match checked {
+        Checked::Accepted(sizes) => {
+            if g.depth <= address.number() {
+                return Answer::Refused(Refusal::BadAddress);
+            }
+            if sizes.patterns <= pattern {
+                return Answer::Refused(Refusal::BadPattern);
+            }
+            update::replace(
+                g,
+                sizes,
+                store,
+                indicators,
+                address,
+                Entry::Pattern(pattern),
+            )
+        }
+        Checked::Refused(why) => Answer::Refused(why),
+    }
+}
+
+// Empties the address; gives the former entry.
+pub fn erase(g: Geometry, store: &mut [u32], indicators: &mut [u64], address: Address) -> Answer
+    ensures { λ r. ⌜ left r (now (store .exit)) (now (indicators .exit)) [] ≡ step g (tables (now (store .entry)) (now (indicators .entry))) (erase (address .0)) ⌝ }
+{
+    let checked = g.check_tables(store.len(), indicators.len());
+    match checked {
+        Checked::Accepted(sizes) => {
+            if g.depth <= address.number() {
+                return Answer::Refused(Refusal::BadAddress);
+            }
+            update::replace(g, sizes, store, indicators, address, Entry::Empty)
+        }
+        Checked::Refused(why) => Answer::Refused(why),
+    }
+}
+
+// The entry of the address.
+pub fn read(g: Geometry, store: &[u32], indicators: &[u64], address: Address) -> Answer
+    ensures { λ r. ⌜ left r (now (store .entry)) (now (indicators .entry)) [] ≡ step g (tables (now (store .entry)) (now (indicators .entry))) (read (address .0)) ⌝ }
+{
+    let checked = g.check_tables(store.len(), indicators.len());
+    match checked {
+        Checked::Accepted(sizes) => {
+            if g.depth <= address.number() {
+                return Answer::Refused(Refusal::BadAddress);
+            }
+            let word = store[address.number() as usize];
+            if stored::is_sound(word, sizes.patterns) {
+                Answer::Held(stored::entry_of(word, sizes.patterns))
+            } else {
+                Answer::Refused(Refusal::BadEntry)
+            }
+        }
+        Checked::Refused(why) => Answer::Refused(why),
+    }
+}
+
+// The lowest address that holds the key, or none.
+pub fn first_match(g: Geometry, store: &[u32], indicators: &[u64], key: u32) -> Answer
+    ensures { λ r. ⌜ left r (now (store .entry)) (now (indicators .entry)) [] ≡ step g (tables (now (store .entry)) (now (indicators .entry))) (firstMatch key) ⌝ }
+{
+    let checked = g.check_tables(store.len(), indicators.len());
+    match checked {
+        Checked::Accepted(sizes) => {
+            if sizes.patterns <= key {
+                return Answer::Refused(Refusal::BadPattern);
+            }
+            search::first(g, sizes, store, indicators, key)
+        }
+        Checked::Refused(why) => Answer::Refused(why),
+    }
+}
+
+// Every address that holds the key, as a bit of the match word, and their number. Whether a set is false is decided before
+// the first match word is written.
+pub fn all_match(
+    g: Geometry,
+    store: &[u32],
+    indicators: &[u64],
+    matches: &mut [u64],
+    key: u32,
+) -> Answer
+    ensures { λ r. ⌜ left r (now (store .entry)) (now (indicators .entry)) (now (matches .exit)) ≡ step g (tables (now (store .entry)) (now (indicators .entry))) (allMatch key (now (matches .entry))) ⌝ }
+{
+    let checked = g.check_matches(store.len(), indicators.len(), matches.len());
+    match checked {
+        Checked::Accepted(sizes) => {
+            if sizes.patterns <= key {
+                return Answer::Refused(Refusal::BadPattern);
+            }
+            if collect::any_is_false(g, sizes, store, indicators, key) {
+                return Answer::Refused(Refusal::FalseSet);
+            }
+            words::zero_all(matches);
+            collect::take_all(g, sizes, store, indicators, matches, key);
+            Answer::Matched {
+                hits: words::total_ones(matches),
+            }
+        }
+        Checked::Refused(why) => Answer::Refused(why),
+    }
+}
+
+// The line of a set: that part of the store itself. A bad geometry, store length or set number gives an empty part.
+pub fn line(g: Geometry, store: &[u32], set: u32) -> &[u32]
+    ensures { λ r. ⌜ now r ≡ line g (now (store .entry)) set ⌝ }
+{
+    let checked = g.check();
+    match checked {
+        Checked::Accepted(sizes) => {
+            if store.len() == g.depth as usize && (set as usize) < sizes.sets {
+                let first = SetIndex::of_bit((set / 64) as usize, set % 64).address(
+                    Offset::first(),
+                    g,
+                );
+                let from = first.number() as usize;
+                let to = from + g.set_width as usize;
+                return &store[from..to];
+            }
+            &store[0..0]
+        }
+        Checked::Refused(_) => &store[0..0],
+    }
+}
+
+// Any of the six calls. A history is this function again and again.
+pub fn perform(
+    call: Call,
+    g: Geometry,
+    store: &mut [u32],
+    indicators: &mut [u64],
+    matches: &mut [u64],
+) -> Answer
+    ensures { λ r. ⌜ Performed g call r (tables (now (store .entry)) (now (indicators .entry))) (tables (now (store .exit)) (now (indicators .exit))) (now (matches .entry)) (now (matches .exit)) ⌝ }
+{
+    match call {
+        Call::Clear => clear(g, store, indicators),
+        Call::Write(address, pattern) => write(g, store, indicators, address, pattern),
+        Call::Erase(address) => erase(g, store, indicators, address),
+        Call::Read(address) => read(g, store, indicators, address),
+        Call::FirstMatch(key) => first_match(g, store, indicators, key),
+        Call::AllMatch(key) => all_match(g, store, indicators, matches, key),
+    }
+}

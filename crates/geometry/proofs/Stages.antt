@@ -6,12 +6,15 @@ use mathlib.Core.Bool.{Bool, true, false, cond}
 use mathlib.Core.List.{[], _∷_}
 use mathlib.Core.Logic.{_⊎_, inl, inr}
 use native.Mathlib.Nat.{zero-add, mod-lt, mul-suc}
+use native.Mathlib.Numerals.{add-one}
 use native.Mathlib.Omega.{arith}
 use lib.Dec.{eqb, ltb}
+use lib.ListN.{length, drop, drop-of-length-le}
 use lib.Pow.{pow-pos, shr-shr, shr-mod, split}
+use lib.Seq.{drop-cons}
 use borrow.Author.Tests.{ltb-true, ltb-false, lt-ltb, le-ltb, eqb-true, eq-eqb}
 use Rattle.words.specs.Rules.{member, tabulate}
-use Rattle.words.proofs.Rules.{both-ways, any-witness, any-true, member-tabulate}
+use Rattle.words.proofs.Rules.{both-ways, any-witness, any-true, length-tabulate, getD-tabulate, member-tabulate}
 use Rattle.geometry.specs.declared.Geometry.{Geometry}
 use Rattle.geometry.specs.Valid.{cascaded}
 use Rattle.geometry.specs.Sizes.{roundedUp, patterns}
@@ -140,3 +143,15 @@ module _ (g : Geometry) (f : Facts g) where
   rows-all =
       let e : suc (stages g - 1) ≡ stages g = omega (arith, stages-pos) in
       omega (arith, rows-before (stages g - 1) (omega arith), ap (rowsBefore g) e)
+
+-- The rows of a pattern, one after the other.
+rows-length : (g : Geometry) (p : ℕ) → length (rowsOf g p) ≡ stages g
+unfolding rowsOf
+rows-length g p = length-tabulate (stages g) (rowOf g p)
+
+pub rows-drop : (g : Geometry) (p k : ℕ) → k < stages g → drop k (rowsOf g p) ≡ rowOf g p k ∷ drop (k + 1) (rowsOf g p)
+unfolding rowsOf
+rows-drop g p k h = rw (add-one, drop-cons (rowsOf g p) k 0 (rw rows-length h), getD-tabulate (stages g) (rowOf g p) k 0 h)
+
+pub rows-over : (g : Geometry) (p k : ℕ) → stages g ≤ k → drop k (rowsOf g p) ≡ []
+rows-over g p k h = drop-of-length-le (rowsOf g p) {i = k} (rw rows-length h)

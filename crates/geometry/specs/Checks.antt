@@ -1,7 +1,7 @@
--- What the checks give: the sizes of a geometry, or document 01's refusals 1 and 2 in their order.
+-- What the checks give: the sizes of a geometry, or document 01's refusals 1 to 4 in their order.
 use Prim.Native.Nat.{ℕ}
 use mathlib.Core.Bool.{Bool, true, false, cond, _&&_}
-use lib.Dec.{eqb}
+use lib.Dec.{eqb, leb}
 use Rattle.geometry.specs.declared.Geometry.{Geometry}
 use Rattle.geometry.specs.declared.Sizes.{Sizes}
 use Rattle.geometry.specs.declared.Refusal.{Refusal}
@@ -51,3 +51,16 @@ checkedTables g store indicators = andLengths (checked g) (tablesFit g store ind
 
 unfoldable pub checkedMatches : Geometry → (store indicators matches : ℕ) → Checked
 checkedMatches g store indicators matches = andLengths (checkedTables g store indicators) (eqb matches (matchWords g))
+
+-- One row more: its refusal where its test holds, and no row above it was given.
+unfoldable pub andRow : Checked → Refusal → (test : Sizes → Bool) → Checked
+andRow (Accepted sizes) why test = cond (test sizes) (Refused why) (Accepted sizes)
+andRow (Refused above) why test = Refused above
+
+-- "address is D or more"
+abbrev pub andAddress : Checked → Geometry → (address : ℕ) → Checked
+andAddress x g a = andRow x BadAddress (λ sizes. leb (g .depth) a)
+
+-- "pattern is 2^P or more"
+abbrev pub andPattern : Checked → (pattern : ℕ) → Checked
+andPattern x p = andRow x BadPattern (λ sizes. leb (sizes .patterns) p)

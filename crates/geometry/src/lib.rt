@@ -1,13 +1,14 @@
 // The four numbers of a memory, their check, and the sizes that follow from them.
 pub mod address;
 
+use address::Address;
 ghost use Prim.Native.Nat.{_^_, _<_};
 ghost use mathlib.Core.Path.{_≡_};
 ghost use mathlib.Core.Bool.{true};
 ghost use Rattle.geometry.specs.Valid.{between, segmentedRule, kindRule, valid};
 ghost use Rattle.geometry.specs.Sizes.{sets, rowWords};
 ghost use Rattle.geometry.specs.Stages.{stages, stageWidth, stage, rowOf, rows};
-ghost use Rattle.geometry.specs.Checks.{sizesOf, checked, checkedTables, checkedMatches, numberOf};
+ghost use Rattle.geometry.specs.Checks.{sizesOf, checked, checkedTables, checkedMatches, andAddress, andPattern, numberOf};
 
 // The four numbers, as they come from a file or a caller: nothing is assumed of them.
 pub struct Geometry {
@@ -66,6 +67,41 @@ impl Refusal {
 pub enum Checked {
     Accepted(Sizes),
     Refused(Refusal),
+}
+
+// The rows of a call's address and pattern, tested where no row above them was given.
+impl Checked {
+    // Refusal 3 besides.
+    pub fn and_address(self, g: Geometry, address: Address) -> Checked
+        ensures { λ r. ⌜ r ≡ andAddress self g (address .0) ⌝ }
+    {
+        match self {
+            Checked::Accepted(sizes) => {
+                if g.depth <= address.number() {
+                    Checked::Refused(Refusal::BadAddress)
+                } else {
+                    Checked::Accepted(sizes)
+                }
+            }
+            Checked::Refused(why) => Checked::Refused(why),
+        }
+    }
+
+    // Refusal 4 besides.
+    pub fn and_pattern(self, pattern: u32) -> Checked
+        ensures { λ r. ⌜ r ≡ andPattern self pattern ⌝ }
+    {
+        match self {
+            Checked::Accepted(sizes) => {
+                if sizes.patterns <= pattern {
+                    Checked::Refused(Refusal::BadPattern)
+                } else {
+                    Checked::Accepted(sizes)
+                }
+            }
+            Checked::Refused(why) => Checked::Refused(why),
+        }
+    }
 }
 
 fn is_between(low: u32, high: u32, n: u32) -> bool

@@ -1,6 +1,6 @@
 -- Demand 3 of the code: a chain of runs is the history of its calls, and that is the plain array's.
 use Prim.Native.Nat.{ℕ}
-use mathlib.Core.Path.{_≡_, refl, sym, ap, ap₂, subst, _∙_}
+use mathlib.Core.Path.{_≡_, refl, sym, ap, ap₂, _∙_}
 use mathlib.Core.Logic.{_↔_}
 use mathlib.Core.List.{List, [], _∷_, map, zipWith}
 use Rattle.geometry.specs.declared.Geometry.{Geometry}
@@ -10,9 +10,8 @@ use Rattle.reference.specs.Tables.{Tables}
 use Rattle.reference.specs.Steps.{Outcome, step}
 use Rattle.reference.specs.History.{run, after}
 use Rattle.reference.proofs.History.{history, equal-tables}
-use Rattle.memory.specs.declared.Call.the-variants.{Clear}
-use Rattle.memory.specs.declared.Answer.the-variants.{Cleared}
-use Rattle.memory.specs.Answers.{callFor, answerFor}
+use Rattle.calls.specs.declared.Call.the-variants.{Clear}
+use Rattle.calls.specs.declared.Answer.the-variants.{Cleared}
 use Rattle.memory.specs.Runs.{Run, callOf, answerOf, Chain, ended, next, lastTables, arrayAfterRuns, CodeFollows}
 
 answers-run : (g : Geometry) (t : Tables) (xs : List Run) → Chain g t xs

@@ -1,11 +1,5 @@
 pub mod Stops
-pub mod Walk
-pub mod Seeking
+pub mod Decided
 pub mod Outcomes
-pub mod Elements
-pub mod Tested
-pub mod Marking
-pub mod FalseSets
 pub mod Performing
 pub mod CodeHistory
-pub mod RowsChanged

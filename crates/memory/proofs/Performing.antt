@@ -1,6 +1,6 @@
 -- From the contract of a call to that of `perform`, which is lent a match word with every call: only all-match uses it.
 use Prim.Native.Nat.{ℕ}
-use mathlib.Core.Path.{_≡_, refl, sym, ap, _∙_}
+use mathlib.Core.Path.{_≡_, refl, ap, _∙_}
 use mathlib.Core.Bool.{Bool, true, false, true≢false}
 use mathlib.Core.List.{List, []}
 use mathlib.Core.Option.{Option, none, some}
@@ -12,10 +12,10 @@ use Rattle.reference.specs.Tables.{Tables}
 use Rattle.reference.specs.Search.{Found, hit, nothing, falseSet, firstFound, answerOf}
 use Rattle.reference.specs.Steps.{Outcome, refusals, accepted, outcome, step}
 use Rattle.reference.proofs.Refused.{matches-after}
-use Rattle.memory.specs.declared.Call.{Call}
-use Rattle.memory.specs.declared.Answer.{Answer}
-use Rattle.memory.specs.declared.Answer.the-variants.{Refused, Cleared, Held, At, None, Matched}
-use Rattle.memory.specs.Answers.{callFor, answerFor, tables, left, Performed}
+use Rattle.calls.specs.declared.Call.{Call}
+use Rattle.calls.specs.declared.Answer.{Answer}
+use Rattle.calls.specs.declared.Answer.the-variants.{Refused, Cleared, Held, At, None, Matched}
+use Rattle.calls.specs.Answers.{callFor, answerFor, tables, left, Performed}
 
 abbrev isMatched : calls.Answer → Bool
 isMatched (matched ws n) = true

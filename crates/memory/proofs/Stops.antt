@@ -1,7 +1,7 @@
 -- What the check of a call tells of its step: rows 1 and 2 of the table are decided, and what is left are the call's own.
 use Prim.Native.Nat.{ℕ}
-use mathlib.Core.Path.{_≡_, refl, sym, ap, _∙_}
-use mathlib.Core.Bool.{Bool, true, false, cond, not, _&&_, _||_, and-eq-true-iff}
+use mathlib.Core.Path.{_≡_, refl, ap}
+use mathlib.Core.Bool.{Bool, true, false, cond, not, _||_, and-eq-true-iff}
 use mathlib.Core.List.{List, _∷_}
 use mathlib.Core.Option.{some}
 use native.Mathlib.Omega.{arith}
@@ -23,7 +23,7 @@ use Rattle.reference.specs.Calls.{Call, allMatch}
 use Rattle.reference.specs.Refusals.{_given-when_, firstRefusal}
 use Rattle.reference.specs.Tables.{Tables}
 use Rattle.reference.specs.Steps.{badLengths, badMatches, ownRefusals, refusals, outcome, step}
-use Rattle.memory.specs.Passed.{Sized, Lent}
+use Rattle.calls.specs.Passed.{Sized, Lent}
 
 module _ (g : Geometry) (t : Tables) (c : Call (List ℕ)) where
   -- what is checked: the geometry, and then the lengths

@@ -9,9 +9,9 @@ use Rattle.reference.specs.Array.{Array, emptied}
 use Rattle.reference.specs.Tables.{Tables}
 use Rattle.reference.specs.Image.{tablesOf}
 use Rattle.reference.specs.History.{arrayAnswers, arrayAfter}
-use Rattle.memory.specs.declared.Call.{Call}
-use Rattle.memory.specs.declared.Answer.{Answer}
-use Rattle.memory.specs.Answers.{callFor, answerFor, Performed}
+use Rattle.calls.specs.declared.Call.{Call}
+use Rattle.calls.specs.declared.Answer.{Answer}
+use Rattle.calls.specs.Answers.{callFor, answerFor, Performed}
 
 -- One run: the call and the match word that was lent, and what came back and was left.
 pub record Run : Type 0 where

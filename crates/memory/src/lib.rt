@@ -1,10 +1,8 @@
 // The six calls and the line, over lent tables. Each gives the answer of its step in `reference` and leaves its tables, for
 // every input: any geometry, tables of any length and content.
-mod collect;
-mod search;
-mod stored;
-mod update;
-
+use calls::Answer;
+use calls::Call;
+use calls::Entry;
 use geometry::Checked;
 use geometry::Geometry;
 use geometry::Refusal;
@@ -16,43 +14,7 @@ ghost use mathlib.Core.List.{[]};
 ghost use Rattle.reference.specs.Calls.{clear, write, erase, read, firstMatch, allMatch};
 ghost use Rattle.reference.specs.Steps.{step};
 ghost use Rattle.reference.specs.Line.{line};
-ghost use Rattle.memory.specs.Answers.{tables, left, callFor, Performed};
-
-// What an address holds.
-pub enum Entry {
-    Empty,
-    Pattern(u32),
-}
-
-// A call, with its address and its pattern.
-pub enum Call {
-    Clear,
-    Write(Address, u32),
-    Erase(Address),
-    Read(Address),
-    FirstMatch(u32),
-    AllMatch(u32),
-}
-
-// What comes back. Document 01's w is `words_read`, its c `entries_compared`.
-pub enum Answer {
-    Refused(Refusal),
-    Cleared,
-    // The entry that the address has, or had before the call.
-    Held(Entry),
-    At {
-        address: Address,
-        words_read: u16,
-        entries_compared: u16,
-    },
-    None {
-        words_read: u16,
-    },
-    // The match word itself is in the lent one.
-    Matched {
-        hits: u32,
-    },
-}
+ghost use Rattle.calls.specs.Answers.{tables, left, Performed};
 
 // Empties every address.
 pub fn clear(g: Geometry, store: &mut [u32], indicators: &mut [u64]) -> Answer
@@ -61,7 +23,7 @@ pub fn clear(g: Geometry, store: &mut [u32], indicators: &mut [u64]) -> Answer
     let checked = g.check_tables(store.len(), indicators.len());
     match checked {
         Checked::Accepted(_) => {
-            stored::empty_all(store);
+            calls::empty_all(store);
             words::zero_all(indicators);
             Answer::Cleared
         }
@@ -79,24 +41,18 @@ pub fn write(
 ) -> Answer
     ensures { λ r. ⌜ left r (now (store .exit)) (now (indicators .exit)) [] ≡ step g (tables (now (store .entry)) (now (indicators .entry))) (write (address .0) pattern) ⌝ }
 {
-    let checked = g.check_tables(store.len(), indicators.len());
+    let checked = g.check_tables(store.len(), indicators.len())
+        .and_address(g, address)
+        .and_pattern(pattern);
     match checked {
-        Checked::Accepted(sizes) => {
-            if g.depth <= address.number() {
-                return Answer::Refused(Refusal::BadAddress);
-            }
-            if sizes.patterns <= pattern {
-                return Answer::Refused(Refusal::BadPattern);
-            }
-            update::replace(
-                g,
-                sizes,
-                store,
-                indicators,
-                address,
-                Entry::Pattern(pattern),
-            )
-        }
+        Checked::Accepted(sizes) => update::replace(
+            g,
+            sizes,
+            store,
+            indicators,
+            address,
+            Entry::Pattern(pattern),
+        ),
         Checked::Refused(why) => Answer::Refused(why),
     }
 }
@@ -105,14 +61,17 @@ pub fn write(
 pub fn erase(g: Geometry, store: &mut [u32], indicators: &mut [u64], address: Address) -> Answer
     ensures { λ r. ⌜ left r (now (store .exit)) (now (indicators .exit)) [] ≡ step g (tables (now (store .entry)) (now (indicators .entry))) (erase (address .0)) ⌝ }
 {
-    let checked = g.check_tables(store.len(), indicators.len());
+    let checked = g.check_tables(store.len(), indicators.len())
+        .and_address(g, address);
     match checked {
-        Checked::Accepted(sizes) => {
-            if g.depth <= address.number() {
-                return Answer::Refused(Refusal::BadAddress);
-            }
-            update::replace(g, sizes, store, indicators, address, Entry::Empty)
-        }
+        Checked::Accepted(sizes) => update::replace(
+            g,
+            sizes,
+            store,
+            indicators,
+            address,
+            Entry::Empty,
+        ),
         Checked::Refused(why) => Answer::Refused(why),
     }
 }
@@ -121,15 +80,13 @@ pub fn erase(g: Geometry, store: &mut [u32], indicators: &mut [u64], address: Ad
 pub fn read(g: Geometry, store: &[u32], indicators: &[u64], address: Address) -> Answer
     ensures { λ r. ⌜ left r (now (store .entry)) (now (indicators .entry)) [] ≡ step g (tables (now (store .entry)) (now (indicators .entry))) (read (address .0)) ⌝ }
 {
-    let checked = g.check_tables(store.len(), indicators.len());
+    let checked = g.check_tables(store.len(), indicators.len())
+        .and_address(g, address);
     match checked {
         Checked::Accepted(sizes) => {
-            if g.depth <= address.number() {
-                return Answer::Refused(Refusal::BadAddress);
-            }
             let word = store[address.number() as usize];
-            if stored::is_sound(word, sizes.patterns) {
-                Answer::Held(stored::entry_of(word, sizes.patterns))
+            if calls::is_sound(word, sizes.patterns) {
+                Answer::Held(calls::entry_of(word, sizes.patterns))
             } else {
                 Answer::Refused(Refusal::BadEntry)
             }
@@ -142,14 +99,10 @@ pub fn read(g: Geometry, store: &[u32], indicators: &[u64], address: Address) ->
 pub fn first_match(g: Geometry, store: &[u32], indicators: &[u64], key: u32) -> Answer
     ensures { λ r. ⌜ left r (now (store .entry)) (now (indicators .entry)) [] ≡ step g (tables (now (store .entry)) (now (indicators .entry))) (firstMatch key) ⌝ }
 {
-    let checked = g.check_tables(store.len(), indicators.len());
+    let checked = g.check_tables(store.len(), indicators.len())
+        .and_pattern(key);
     match checked {
-        Checked::Accepted(sizes) => {
-            if sizes.patterns <= key {
-                return Answer::Refused(Refusal::BadPattern);
-            }
-            search::first(g, sizes, store, indicators, key)
-        }
+        Checked::Accepted(sizes) => search::first(g, sizes, store, indicators, key),
         Checked::Refused(why) => Answer::Refused(why),
     }
 }
@@ -165,12 +118,10 @@ pub fn all_match(
 ) -> Answer
     ensures { λ r. ⌜ left r (now (store .entry)) (now (indicators .entry)) (now (matches .exit)) ≡ step g (tables (now (store .entry)) (now (indicators .entry))) (allMatch key (now (matches .entry))) ⌝ }
 {
-    let checked = g.check_matches(store.len(), indicators.len(), matches.len());
+    let checked = g.check_matches(store.len(), indicators.len(), matches.len())
+        .and_pattern(key);
     match checked {
         Checked::Accepted(sizes) => {
-            if sizes.patterns <= key {
-                return Answer::Refused(Refusal::BadPattern);
-            }
             if collect::any_is_false(g, sizes, store, indicators, key) {
                 return Answer::Refused(Refusal::FalseSet);
             }

@@ -118,6 +118,12 @@ getD-tabulate zero f i d l = absurd (omega arith)
 getD-tabulate (suc n) f zero d l = refl
 getD-tabulate (suc n) f (suc i) d l = getD-tabulate n (λ k. f (suc k)) i d (omega arith)
 
+-- a word within a list, whatever would stand past its end: the code reads 0 there, the store's definition the empty word
+pub any-default : (l : List ℕ) (i d e : ℕ) → i < length l → getD l i d ≡ getD l i e
+any-default [] i d e h = absurd (omega arith)
+any-default (x ∷ l) zero d e h = refl
+any-default (x ∷ l) (suc i) d e h = any-default l i d e (omega arith)
+
 -- a list is tabulated by its elements
 pub list-tabulate : (l : List ℕ) (n : ℕ) (f : ℕ → ℕ) → length l ≡ n → ((i : ℕ) → i < n → getD l i 0 ≡ f i) → l ≡ tabulate n f
 list-tabulate l n f e h =

@@ -1,9 +1,10 @@
 -- Laws of a search, and of the lowest set bit of a row of any number of words.
-use Prim.Native.Nat.{ℕ, zero, suc, _+_, _*_, _/_, _%_, _^_, _<_, _≤_}
+use Prim.Native.Nat.{ℕ, zero, suc, _+_, _-_, _*_, _/_, _%_, _^_, _<_, _≤_}
 use mathlib.Core.Logic.{_⊎_, inl, inr}
 use mathlib.Core.Path.{_≡_, refl}
 use mathlib.Core.Bool.{Bool, true, false, not}
 use native.Mathlib.Nat.{eq-or-lt-of-le}
+use native.Mathlib.Numerals.{add-one}
 use native.Mathlib.Omega.{arith}
 use lib.Dec.{eqb}
 use lib.Count.{trailingZeros}
@@ -49,6 +50,20 @@ pub seek-missed : (n : ℕ) (test : ℕ → Bool) (looks : ℕ) → seek test n 
 seek-missed n test looks e =
     let o : Outcome test n 0 0 (missed looks) = rw e at (seek-outcome test n 0 0) in
     (λ j l. o .0 j (omega arith) (omega arith), omega arith)
+
+-- A search by a loop that counts its looks: a turn, and both ends.
+module _ (test : ℕ → Bool) (n i looks : ℕ) where
+  pub seek-on : i < n → test i ≡ false → seek test (n - (i + 1)) (i + 1) (looks + 1) ≡ seek test (n - i) i looks
+  unfolding seek
+  seek-on h e = let left : n - i ≡ suc (n - (i + 1)) = omega arith in rw (left, seek, e, add-one i, add-one looks)
+
+  pub seek-here : i < n → test i ≡ true → seek test (n - i) i looks ≡ found i (looks + 1)
+  unfolding seek
+  seek-here h e = let left : n - i ≡ suc (n - (i + 1)) = omega arith in rw (left, seek, e, add-one looks)
+
+  pub seek-over : n ≤ i → seek test (n - i) i looks ≡ missed looks
+  unfolding seek
+  seek-over h = let left : n - i ≡ 0 = omega arith in rw left
 
 -- A row of words f 0, f 1, .. of 64 bits: position i is bit i % 64 of word i / 64.
 abbrev pub rowBit : (ℕ → ℕ) → ℕ → Bool

@@ -1,87 +1,73 @@
--- `memory::all_match` meets its contract, way by way: row 4, row 6, the marks on a match word of zeros, the check.
-use Prim.Native.Nat.{_≤_}
-use mathlib.Core.Path.{_≡_, refl, sym, ap, _∙_}
-use mathlib.Core.Bool.{true, false}
+-- `memory::all_match` meets its contract: rows 1, 2 and 4 by the check, then row 6, or the marks on a match word of zeros.
+use mathlib.Core.Path.{_≡_, sym, ap, _∙_}
+use mathlib.Core.List.{[], _∷_}
 use native.Mathlib.Omega.{arith}
 use lib.ListN.{length, length-replicate}
 use borrow.Author.Needs.{needs}
-use Rattle.geometry.specs.declared.Refusal.the-variants.{BadPattern, FalseSet}
 use Rattle.geometry.specs.Sizes.{matchWords}
 use Rattle.geometry.proofs.Facts.{facts}
 use Rattle.geometry.proofs.Places.{matches-least}
-use Rattle.reference.specs.Calls.{allMatch}
-use Rattle.reference.specs.Refusals.{firstRefusal, badPattern}
+use Rattle.reference.specs.Calls.{allMatch, lent}
+use Rattle.reference.specs.Refusals.{_given-when_}
 use Rattle.reference.specs.Search.{anyIsFalse}
 use Rattle.reference.specs.Steps.{ownRefusals}
-use Rattle.memory.specs.Answers.{tables}
+use Rattle.calls.specs.Answers.{tables}
+use Rattle.calls.specs.Passed.{Lent}
+use Rattle.collect.proofs.Marking.{length-marked}
 use Rattle.memory.proofs.Stops.{matches-lent}
-use Rattle.memory.proofs.Outcomes.{matches-refuses, matches-row-refuses, matches-none-refuses, matched-left}
-use Rattle.memory.proofs.Tested.{pattern-bad, pattern-good}
-use Rattle.memory.proofs.Marking.{length-marked}
+use Rattle.memory.proofs.Decided.{Decides, matches-decide, pattern-decides, row-accepted}
+use Rattle.memory.proofs.Outcomes.{refused-left, false-left, matched-left}
 use Rattle.memory.proofs.all_match.Statement.{statement}
 use Rattle.memory.proofs.all_match.Tie as tie
 
+decided : (k : tie.After-and-pattern) → let x = k .before .before .before .before .before .args in
+    let t = tables (x .store .now) (x .indicators .now) in
+    Decides (x .g) t (allMatch (x .key) (x .matches .now)) (k .and-pattern .result) (6 given-when anyIsFalse (x .g) t (x .key) ∷ [])
+unfolding ownRefusals
+decided k = rw (k .and-pattern .ensures, k .before .check-matches .ensures) (pattern-decides _ (matches-decide _ _ _ _))
+
+-- the lengths, where the check accepted
+lent-at : (k : tie.After-checked) → let x = k .before .before .before .before .before .before .before .args in
+    Lent (x .g) (k .checked .given .0 .0) (length (x .store .now)) (length (x .indicators .now)) × (length (x .matches .now) ≡ matchWords (x .g))
+lent-at k =
+    let p = k .before .before in
+    matches-lent _ _ _ _ _ (sym (p .before .check-matches .ensures) ∙ row-accepted _ _ _ _ (sym (p .and-pattern .ensures) ∙ k .checked .given .1) .0)
+
 returns : tie.Need-returns
-unfolding ownRefusals firstRefusal
 returns c =
     let k = c .before .before .before in
-    let x = k .before .before .before .before .before .before .args in
-    let is = sym (k .before .before .check-matches .ensures) ∙ k .checked .given .1 in
-    let bad : badPattern (x .g) (x .key) ≡ true = pattern-bad (matches-lent _ _ _ _ _ is .0 .sized) _ (c .if1 .taken) in
-    matches-row-refuses _ _ _ _ _ _ BadPattern is (rw bad)
+    false-left _ _ _ _ _ (sym (c .before .any-is-false .ensures) ∙ c .if1 .taken) ∙ sym (decided (k .before .before) .passes _ (k .checked .given .1))
 
-any-is-false-requires : tie.Need-any-is-false-requires
-any-is-false-requires c κs =
-    let k = c .before .before .before in
-    matches-lent _ _ _ _ _ (sym (k .before .before .check-matches .ensures) ∙ k .checked .given .1) .0
-
-returns-2 : tie.Need-returns-2
-unfolding ownRefusals firstRefusal
-returns-2 c =
-    let e = c .before .before in
-    let k = e .before .before .before in
-    let x = k .before .before .before .before .before .before .args in
-    let is = sym (k .before .before .check-matches .ensures) ∙ k .checked .given .1 in
-    let good : badPattern (x .g) (x .key) ≡ false = pattern-good (matches-lent _ _ _ _ _ is .0 .sized) _ (e .if1 .left) in
-    let bad : anyIsFalse (x .g) (tables (x .store .now) (x .indicators .now)) (x .key) ≡ true = sym (c .before .any-is-false .ensures) ∙ c .if2 .taken in
-    matches-row-refuses _ _ _ _ _ _ FalseSet is (rw (good, bad))
+-- the match word of zeros has its length
+zeroed : (z : tie.After-zero-all) → length (z .zero-all .last .0) ≡ matchWords (z .before .before .before .before .before .before .before .before .before .before .before .before .args .g)
+zeroed z = ap length (z .zero-all .ensures) ∙ length-replicate _ _ ∙ lent-at (z .before .before .before .before .before) .1
 
 take-all-requires : tie.Need-take-all-requires
-take-all-requires c κs =
-    let z = c .before .before .before in
-    let k = z .before .before .before .before .before .before .before in
-    let l = matches-lent _ _ _ _ _ (sym (k .before .before .check-matches .ensures) ∙ k .checked .given .1) in
-    (l .0, ap length (z .zero-all .ensures) ∙ length-replicate _ _ ∙ l .1)
+take-all-requires c κs = let z = c .before .before .before in (lent-at (z .before .before .before .before .before) .0, zeroed z)
 
 total-ones-requires : tie.Need-total-ones-requires
 total-ones-requires c κs =
     let t = c .before .before .before in
     let z = t .before .before .before .before in
-    let k = z .before .before .before .before .before .before .before in
-    let l = matches-lent _ _ _ _ _ (sym (k .before .before .check-matches .ensures) ∙ k .checked .given .1) in
-    let f = facts _ (l .0 .sized .is-valid) in
-    omega (arith, matches-least _ f, f .depth-most, ap length (t .take-all .ensures) ∙ length-marked _ _ ∙ ap length (z .zero-all .ensures) ∙ length-replicate _ _ ∙ l .1)
+    let f = facts _ (lent-at (z .before .before .before .before .before) .0 .sized .is-valid) in
+    omega (arith, matches-least _ f, f .depth-most, ap length (t .take-all .ensures) ∙ length-marked _ _ ∙ zeroed z)
 
-returns-3 : tie.Need-returns-3
-unfolding ownRefusals firstRefusal
-returns-3 c =
+returns-2 : tie.Need-returns-2
+returns-2 c =
     let t = c .before .before .before .before in
     let z = t .before .before .before .before in
-    let e = z .before .before .before .before in
+    let e = z .before .before in
     let k = e .before .before .before in
-    let x = k .before .before .before .before .before .before .args in
-    let is = sym (k .before .before .check-matches .ensures) ∙ k .checked .given .1 in
-    let l = matches-lent _ _ _ _ _ is in
-    let good : badPattern (x .g) (x .key) ≡ false = pattern-good (l .0 .sized) _ (e .if1 .left) in
-    let fine : anyIsFalse (x .g) (tables (x .store .now) (x .indicators .now)) (x .key) ≡ false = sym (z .before .before .before .any-is-false .ensures) ∙ z .before .before .if2 .left in
-    matched-left _ _ _ _ _ _ _ _ (t .take-all .ensures) (z .zero-all .ensures) (l .1) (c .total-ones .ensures)
-    ∙ matches-none-refuses _ _ _ _ _ _ is (rw (good, fine))
+    matched-left _ _ _ _ _ _ _ _ (sym (e .before .any-is-false .ensures) ∙ e .if1 .left) (t .take-all .ensures) (z .zero-all .ensures) (lent-at k .1)
+    (c .total-ones .ensures)
+    ∙ sym (decided (k .before .before) .passes _ (k .checked .given .1))
 
-returns-4 : tie.Need-returns-4
-returns-4 c = matches-refuses _ _ _ _ _ _ (sym (c .before .before .before .check-matches .ensures) ∙ c .before .checked2 .given .1)
+returns-3 : tie.Need-returns-3
+unfolding lent
+returns-3 c = let k = c .before in refused-left (decided (k .before .before)) (k .checked2 .given .1)
 
 pub all-match-spec : {M : Type 1} → statement M
 all-match-spec =
     tie.close
-    (tie.spec (λ c κs. search needs) (λ c. search needs) returns any-is-false-requires returns-2 (λ c κs. search needs) take-all-requires
-    total-ones-requires (λ c. search needs) (λ c. search needs) returns-3 returns-4)
+    (tie.spec (λ c κs. search needs) (λ c κs. search needs) (λ c. search needs) (λ c κs. lent-at (c .before) .0) returns (λ c κs. search needs)
+    take-all-requires total-ones-requires (λ c. search needs) (λ c. search needs) returns-2 returns-3)

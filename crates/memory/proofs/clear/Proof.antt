@@ -4,27 +4,32 @@ use mathlib.Core.List.{[]}
 use borrow.Author.Needs.{needs}
 use Rattle.reference.specs.Calls.{clear, lent}
 use Rattle.reference.specs.Refusals.{firstRefusal}
-use Rattle.reference.specs.Steps.{badMatches, ownRefusals}
-use Rattle.memory.specs.Answers.{left}
-use Rattle.memory.specs.declared.Answer.the-variants.{Cleared}
-use Rattle.memory.proofs.Stops.{tables-lent}
-use Rattle.memory.proofs.Outcomes.{check-refuses, none-refuses, cleared-left}
+use Rattle.reference.specs.Steps.{badMatches, ownRefusals, outcome}
+use Rattle.calls.specs.Answers.{tables, left}
+use Rattle.calls.specs.declared.Answer.the-variants.{Cleared}
+use Rattle.memory.proofs.Decided.{Decides, tables-decide}
+use Rattle.memory.proofs.Outcomes.{refused-left, cleared-left}
 use Rattle.memory.proofs.clear.Statement.{statement}
 use Rattle.memory.proofs.clear.Tie as tie
 
+decided : (k : tie.After-check-tables) → let x = k .before .before .before .args in
+    Decides (x .g) (tables (x .store .now) (x .indicators .now)) clear (k .check-tables .result) []
+unfolding badMatches ownRefusals
+decided k = rw (k .check-tables .ensures) (tables-decide _ _ clear refl)
+
 returns : tie.Need-returns
-unfolding badMatches lent ownRefusals firstRefusal
+unfolding outcome firstRefusal
 returns c =
     let zeroed = c .before .before in
     let emptied = zeroed .before .before .before .before in
     let told = emptied .before .before in
-    let is = sym (told .before .before .check-tables .ensures) ∙ told .enum-told .given .1 in
+    let d = decided (told .before .before) in
     ap₂ (λ s i. left Cleared s i []) (emptied .empty-all .ensures) (zeroed .zero-all .ensures)
-    ∙ cleared-left _ _ _ _ _ (tables-lent _ _ _ _ is) ∙ none-refuses _ _ _ clear refl refl _ is refl
+    ∙ cleared-left _ _ _ _ _ (d .lent _ (told .enum-told .given .1)) ∙ sym (d .passes _ (told .enum-told .given .1))
 
 returns-2 : tie.Need-returns-2
-unfolding badMatches lent
-returns-2 c = check-refuses _ _ _ clear refl refl _ (sym (c .before .before .before .check-tables .ensures) ∙ c .before .checked .given .1)
+unfolding lent
+returns-2 c = let k = c .before in refused-left (decided (k .before .before)) (k .checked .given .1)
 
 pub clear-spec : {M : Type 1} → statement M
 clear-spec =

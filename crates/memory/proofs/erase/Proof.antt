@@ -1,49 +1,41 @@
--- `memory::erase` meets its contract, way by way: row 3, what `replace` does, the check.
-use mathlib.Core.Path.{_≡_, refl, sym, _∙_}
-use mathlib.Core.Bool.{true}
-use native.Mathlib.Omega.{arith}
+-- `memory::erase` meets its contract: rows 1 to 3 by the check, and what `replace` does.
+use mathlib.Core.Path.{refl, sym, _∙_}
+use mathlib.Core.List.{[], _∷_}
 use borrow.Author.Needs.{needs}
-use Rattle.geometry.specs.declared.Refusal.the-variants.{BadAddress}
 use Rattle.reference.specs.Calls.{erase, lent}
-use Rattle.reference.specs.Refusals.{firstRefusal, badAddress}
-use Rattle.reference.specs.Steps.{badMatches, ownRefusals}
-use Rattle.memory.proofs.Stops.{tables-lent}
-use Rattle.memory.proofs.Outcomes.{check-refuses, row-refuses, own-rows, erase-left}
-use Rattle.memory.proofs.Tested.{address-bad, address-good}
+use Rattle.reference.specs.Refusals.{_given-when_}
+use Rattle.reference.specs.Steps.{badMatches, badEntry, ownRefusals, accepted}
+use Rattle.calls.specs.Answers.{tables}
+use Rattle.memory.proofs.Decided.{Decides, tables-decide, address-decides, address-inside}
+use Rattle.memory.proofs.Outcomes.{refused-left, replacing-left}
 use Rattle.memory.proofs.erase.Statement.{statement}
 use Rattle.memory.proofs.erase.Tie as tie
 
-returns : tie.Need-returns
-unfolding badMatches lent ownRefusals firstRefusal
-returns c =
-    let k = c .before .before .before .before in
-    let x = k .before .before .before .before .before .args in
-    let is = sym (k .before .before .check-tables .ensures) ∙ k .checked .given .1 in
-    let bad : badAddress (x .g) (x .address .0) ≡ true = address-bad _ _ _ (c .before .before .number .ensures) (c .if1 .taken) in
-    row-refuses _ _ _ (erase _) refl refl _ BadAddress is (rw bad)
+decided : (k : tie.After-and-address) → let x = k .before .before .before .before .args in
+    let t = tables (x .store .now) (x .indicators .now) in
+    Decides (x .g) t (erase (x .address .0)) (k .and-address .result) (5 given-when badEntry (x .g) t (x .address .0) ∷ [])
+unfolding badMatches ownRefusals
+decided k = rw (k .and-address .ensures, k .before .check-tables .ensures) (address-decides _ (tables-decide _ _ (erase _) refl))
 
 replace-requires : tie.Need-replace-requires
 replace-requires c κs =
-    let e = c .before .before in
-    let k = e .before .before .before .before in
-    let is = sym (k .before .before .check-tables .ensures) ∙ k .checked .given .1 in
-    (tables-lent _ _ _ _ is, omega (arith, e .if1 .left, e .before .before .number .ensures))
+    let k = c .before .before .before in
+    let a = k .before .before in
+    (decided a .lent _ (k .checked .given .1), address-inside _ (a .before .before .before .before .args .g) _ _ (sym (a .and-address .ensures) ∙ k .checked .given .1))
+
+returns : tie.Need-returns
+unfolding lent accepted
+returns c =
+    let r = c .before .before .before .before in
+    let k = r .before .before .before .before in
+    r .replace .ensures ∙ replacing-left _ _ _ _ (erase _) refl refl ∙ sym (decided (k .before .before) .passes _ (k .checked .given .1))
 
 returns-2 : tie.Need-returns-2
-unfolding badMatches lent
-returns-2 c =
-    let r = c .before .before .before .before in
-    let e = r .before .before .before in
-    let k = e .before .before .before .before in
-    let is = sym (k .before .before .check-tables .ensures) ∙ k .checked .given .1 in
-    r .replace .ensures ∙ erase-left _ _ _ (address-good _ _ _ (e .before .before .number .ensures) (e .if1 .left)) ∙ sym (own-rows _ _ _ (erase _) refl refl _ is)
-
-returns-3 : tie.Need-returns-3
-unfolding badMatches lent
-returns-3 c = check-refuses _ _ _ (erase _) refl refl _ (sym (c .before .before .before .check-tables .ensures) ∙ c .before .checked2 .given .1)
+unfolding lent
+returns-2 c = let k = c .before in refused-left (decided (k .before .before)) (k .checked2 .given .1)
 
 pub erase-spec : {M : Type 1} → statement M
 erase-spec =
     tie.close
-    (tie.spec (λ c κs. search needs) (λ c. search needs) (λ c κs. search needs) returns replace-requires (λ c. search needs) (λ c. search needs)
-    (λ c. search needs) returns-2 returns-3)
+    (tie.spec (λ c κs. search needs) (λ c κs. search needs) (λ c. search needs) replace-requires (λ c. search needs) (λ c. search needs)
+    (λ c. search needs) returns returns-2)

@@ -12,7 +12,7 @@ use Rattle.geometry.proofs.Facts.{facts}
 use Rattle.geometry.proofs.Places.{address-lt}
 use Rattle.geometry.proofs.Bounds.{sets-few}
 use Rattle.reference.proofs.Line.{true-line, line-refused}
-use Rattle.memory.specs.Passed.{Sized}
+use Rattle.calls.specs.Passed.{Sized}
 use Rattle.memory.proofs.Stops.{checked-sized, checked-invalid}
 use Rattle.memory.proofs.line.Statement.{statement}
 use Rattle.memory.proofs.line.Tie as tie

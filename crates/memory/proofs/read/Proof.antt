@@ -1,75 +1,66 @@
--- `memory::read` meets its contract, way by way: row 3, the entry, row 5, the check.
+-- `memory::read` meets its contract: rows 1 to 3 by the check, and then the entry or row 5.
 use Prim.Native.Nat.{_<_}
 use mathlib.Core.Path.{_≡_, refl, sym, ap, _∙_}
-use mathlib.Core.Bool.{true, false, not}
-use mathlib.Core.List.{[]}
+use mathlib.Core.Bool.{not}
+use mathlib.Core.List.{[], _∷_}
 use native.Mathlib.Omega.{arith}
 use lib.ListN.{length}
 use borrow.Author.Needs.{needs}
-use Rattle.geometry.specs.declared.Refusal.the-variants.{BadAddress, BadEntry}
-use Rattle.reference.specs.Calls.{read, held, lent}
-use Rattle.reference.specs.Refusals.{firstRefusal, badAddress}
-use Rattle.reference.specs.Steps.{badMatches, badEntry, ownRefusals, accepted}
-use Rattle.memory.specs.Answers.{tables}
-use Rattle.memory.proofs.Stops.{tables-lent}
-use Rattle.memory.proofs.Outcomes.{check-refuses, row-refuses, none-refuses, held-left}
-use Rattle.memory.proofs.Tested.{address-bad, address-good, entry-bad, entry-held}
+use Rattle.reference.specs.Calls.{read, lent}
+use Rattle.reference.specs.Refusals.{_given-when_}
+use Rattle.reference.specs.Steps.{badMatches, badEntry, ownRefusals}
+use Rattle.calls.specs.Answers.{tables}
+use Rattle.calls.proofs.Tested.{entry-bad, entry-held}
+use Rattle.memory.proofs.Decided.{Decides, tables-decide, address-decides, address-inside}
+use Rattle.memory.proofs.Outcomes.{refused-left, bad-left, held-left}
 use Rattle.memory.proofs.read.Statement.{statement}
 use Rattle.memory.proofs.read.Tie as tie
 
-returns : tie.Need-returns
-unfolding badMatches lent ownRefusals firstRefusal
-returns c =
-    let k = c .before .before .before .before in
-    let x = k .before .before .before .before .before .args in
-    let is = sym (k .before .before .check-tables .ensures) ∙ k .checked .given .1 in
-    let bad : badAddress (x .g) (x .address .0) ≡ true = address-bad _ _ _ (c .before .before .number .ensures) (c .if1 .taken) in
-    row-refuses _ _ _ (read _) refl refl _ BadAddress is (rw bad)
+decided : (k : tie.After-and-address) → let x = k .before .before .before .before .args in
+    let t = tables (x .store .now) (x .indicators .now) in
+    Decides (x .g) t (read (x .address .0)) (k .and-address .result) (5 given-when badEntry (x .g) t (x .address .0) ∷ [])
+unfolding badMatches ownRefusals
+decided k = rw (k .and-address .ensures, k .before .check-tables .ensures) (address-decides _ (tables-decide _ _ (read _) refl))
 
-shared-slice-read-word : tie.Need-shared-slice-read-word
-shared-slice-read-word c =
-    let e = c .before .before in
-    let k = e .before .before .before .before in
-    let is = sym (k .before .before .check-tables .ensures) ∙ k .checked .given .1 in
-    omega (arith, tables-lent _ _ _ _ is .entries, e .if1 .left, e .before .before .number .ensures, c .before .number2 .ensures)
+-- the word that is read is one of the store
+inside : (n : tie.After-number) → n .number .result < length (n .before .before .before .before .before .before .before .before .args .store .now)
+inside n =
+    let k = n .before .before in
+    let a = k .before .before in
+    omega (arith, n .number .ensures, decided a .lent _ (k .checked .given .1) .entries, address-inside _ (a .before .before .before .before .args .g) _ _ (sym (a .and-address .ensures) ∙ k .checked .given .1))
+
+-- row 5, by what the code found of the word
+bad : (c : tie.After-is-sound) → let n = c .before .before in
+    let x = n .before .before .before .before .before .before .before .before .args in
+    badEntry (x .g) (tables (x .store .now) (x .indicators .now)) (x .address .0) ≡ not (c .is-sound .result)
+bad c =
+    let n = c .before .before in
+    let k = n .before .before in
+    entry-bad (decided (k .before .before) .lent _ (k .checked .given .1) .sized) _ _ _ _ (n .number .ensures) (inside n) ∙ ap not (sym (c .is-sound .ensures))
+
+returns : tie.Need-returns
+returns c =
+    let s = c .before .before in
+    let n = s .before .before in
+    let k = n .before .before in
+    let d = decided (k .before .before) in
+    let x = k .before .before .before .before .before .before .args in
+    held-left (x .g) (x .store .now) (x .indicators .now) _ (c .entry-of .result) (bad s ∙ ap not (c .before .if1 .taken))
+    (c .entry-of .ensures ∙ entry-held (d .lent _ (k .checked .given .1) .sized) (x .store .now) (x .indicators .now) _ _ (n .number .ensures) (inside n))
+    ∙ sym (d .passes _ (k .checked .given .1))
 
 returns-2 : tie.Need-returns-2
-unfolding badMatches lent ownRefusals firstRefusal
 returns-2 c =
-    let n = c .before .before .before .before in
-    let e = n .before in
-    let k = e .before .before .before .before in
-    let x = k .before .before .before .before .before .args in
-    let is = sym (k .before .before .check-tables .ensures) ∙ k .checked .given .1 in
-    let l = tables-lent _ _ _ _ is in
-    let good : badAddress (x .g) (x .address .0) ≡ false = address-good _ _ _ (e .before .before .number .ensures) (e .if1 .left) in
-    let inside : n .number2 .result < length (x .store .now) = omega (arith, l .entries, e .if1 .left, e .before .before .number .ensures, n .number2 .ensures) in
-    let fine : badEntry (x .g) (tables (x .store .now) (x .indicators .now)) (x .address .0) ≡ false =
-    entry-bad (l .sized) _ _ _ _ (n .number2 .ensures) inside ∙ ap not (sym (c .before .before .is-sound .ensures) ∙ c .before .if2 .taken) in
-    held-left (x .g) (x .store .now) (x .indicators .now) _ (c .entry-of .result) (c .entry-of .ensures ∙ entry-held (l .sized) (x .store .now) (x .indicators .now) _ _ (n .number2 .ensures) inside)
-    ∙ none-refuses _ _ _ (read _) refl refl _ is (rw (good, fine))
+    let s = c .before in
+    let k = s .before .before .before .before in
+    bad-left _ _ _ _ (bad s ∙ ap not (c .if1 .left)) ∙ sym (decided (k .before .before) .passes _ (k .checked .given .1))
 
 returns-3 : tie.Need-returns-3
-unfolding badMatches lent ownRefusals firstRefusal
-returns-3 c =
-    let n = c .before .before .before in
-    let e = n .before in
-    let k = e .before .before .before .before in
-    let x = k .before .before .before .before .before .args in
-    let is = sym (k .before .before .check-tables .ensures) ∙ k .checked .given .1 in
-    let l = tables-lent _ _ _ _ is in
-    let good : badAddress (x .g) (x .address .0) ≡ false = address-good _ _ _ (e .before .before .number .ensures) (e .if1 .left) in
-    let inside : n .number2 .result < length (x .store .now) = omega (arith, l .entries, e .if1 .left, e .before .before .number .ensures, n .number2 .ensures) in
-    let bad : badEntry (x .g) (tables (x .store .now) (x .indicators .now)) (x .address .0) ≡ true =
-    entry-bad (l .sized) _ _ _ _ (n .number2 .ensures) inside ∙ ap not (sym (c .before .is-sound .ensures) ∙ c .if2 .left) in
-    row-refuses _ _ _ (read _) refl refl _ BadEntry is (rw (good, bad))
-
-returns-4 : tie.Need-returns-4
-unfolding badMatches lent
-returns-4 c = check-refuses _ _ _ (read _) refl refl _ (sym (c .before .before .before .check-tables .ensures) ∙ c .before .checked2 .given .1)
+unfolding lent
+returns-3 c = let k = c .before in refused-left (decided (k .before .before)) (k .checked2 .given .1)
 
 pub read-spec : {M : Type 1} → statement M
 read-spec =
     tie.close
-    (tie.spec (λ c κs. search needs) (λ c. search needs) (λ c κs. search needs) returns (λ c κs. search needs) (λ c. search needs) (λ c. search needs)
-    shared-slice-read-word (λ c κs. search needs) (λ c κs. search needs) (λ c. search needs) returns-2 returns-3 returns-4)
+    (tie.spec (λ c κs. search needs) (λ c κs. search needs) (λ c. search needs) (λ c κs. search needs) (λ c. search needs) (λ c. search needs)
+    (λ c. inside (c .before)) (λ c κs. search needs) (λ c κs. search needs) (λ c. search needs) returns returns-2 returns-3)

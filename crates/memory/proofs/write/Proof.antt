@@ -1,64 +1,44 @@
--- `memory::write` meets its contract, way by way: row 3, row 4, what `replace` does, the check.
-use mathlib.Core.Path.{_≡_, refl, sym, _∙_}
-use mathlib.Core.Bool.{true, false}
-use native.Mathlib.Omega.{arith}
+-- `memory::write` meets its contract: rows 1 to 4 by the check, and what `replace` does.
+use mathlib.Core.Path.{refl, sym, _∙_}
+use mathlib.Core.List.{[], _∷_}
 use borrow.Author.Needs.{needs}
-use Rattle.geometry.specs.declared.Refusal.the-variants.{BadAddress, BadPattern}
 use Rattle.reference.specs.Calls.{write, lent}
-use Rattle.reference.specs.Refusals.{firstRefusal, badAddress, badPattern}
-use Rattle.reference.specs.Steps.{badMatches, ownRefusals}
-use Rattle.memory.proofs.Stops.{tables-lent}
-use Rattle.memory.proofs.Outcomes.{check-refuses, row-refuses, own-rows, write-left}
-use Rattle.memory.proofs.Tested.{address-bad, address-good, pattern-bad, pattern-good}
+use Rattle.reference.specs.Refusals.{_given-when_}
+use Rattle.reference.specs.Steps.{badMatches, badEntry, ownRefusals, accepted}
+use Rattle.calls.specs.Answers.{tables}
+use Rattle.memory.proofs.Decided.{Decides, tables-decide, address-decides, pattern-decides, row-accepted, address-inside}
+use Rattle.memory.proofs.Outcomes.{refused-left, replacing-left}
 use Rattle.memory.proofs.write.Statement.{statement}
 use Rattle.memory.proofs.write.Tie as tie
 
-returns : tie.Need-returns
-unfolding badMatches lent ownRefusals firstRefusal
-returns c =
-    let k = c .before .before .before .before in
-    let x = k .before .before .before .before .before .args in
-    let is = sym (k .before .before .check-tables .ensures) ∙ k .checked .given .1 in
-    let bad : badAddress (x .g) (x .address .0) ≡ true = address-bad _ _ _ (c .before .before .number .ensures) (c .if1 .taken) in
-    row-refuses _ _ _ (write _ _) refl refl _ BadAddress is (rw bad)
-
-returns-2 : tie.Need-returns-2
-unfolding badMatches lent ownRefusals firstRefusal
-returns-2 c =
-    let e = c .before .before in
-    let k = e .before .before .before .before in
-    let x = k .before .before .before .before .before .args in
-    let is = sym (k .before .before .check-tables .ensures) ∙ k .checked .given .1 in
-    let good : badAddress (x .g) (x .address .0) ≡ false = address-good _ _ _ (e .before .before .number .ensures) (e .if1 .left) in
-    let bad : badPattern (x .g) (x .pattern) ≡ true = pattern-bad (tables-lent _ _ _ _ is .sized) _ (c .if2 .taken) in
-    row-refuses _ _ _ (write _ _) refl refl _ BadPattern is (rw (good, bad))
+decided : (k : tie.After-and-pattern) → let x = k .before .before .before .before .before .args in
+    let t = tables (x .store .now) (x .indicators .now) in
+    Decides (x .g) t (write (x .address .0) (x .pattern)) (k .and-pattern .result) (5 given-when badEntry (x .g) t (x .address .0) ∷ [])
+unfolding badMatches ownRefusals
+decided k =
+    rw (k .and-pattern .ensures, k .before .and-address .ensures, k .before .before .check-tables .ensures)
+    (pattern-decides _ (address-decides _ (tables-decide _ _ (write _ _) refl)))
 
 replace-requires : tie.Need-replace-requires
 replace-requires c κs =
-    let e = c .before .before .before .before in
-    let k = e .before .before .before .before in
-    let is = sym (k .before .before .check-tables .ensures) ∙ k .checked .given .1 in
-    (tables-lent _ _ _ _ is, omega (arith, e .if1 .left, e .before .before .number .ensures))
+    let k = c .before .before .before in
+    let p = k .before .before in
+    let passed = row-accepted _ _ _ _ (sym (p .and-pattern .ensures) ∙ k .checked .given .1) .0 in
+    (decided p .lent _ (k .checked .given .1), address-inside _ (p .before .before .before .before .before .args .g) _ _ (sym (p .before .and-address .ensures) ∙ passed))
 
-returns-3 : tie.Need-returns-3
-unfolding badMatches lent
-returns-3 c =
+returns : tie.Need-returns
+unfolding lent accepted
+returns c =
     let r = c .before .before .before .before in
-    let p = r .before .before .before in
-    let e = p .before .before in
-    let k = e .before .before .before .before in
-    let is = sym (k .before .before .check-tables .ensures) ∙ k .checked .given .1 in
-    r .replace .ensures
-    ∙ write-left _ _ _ _ (address-good _ _ _ (e .before .before .number .ensures) (e .if1 .left))
-    (pattern-good (tables-lent _ _ _ _ is .sized) _ (p .if2 .left))
-    ∙ sym (own-rows _ _ _ (write _ _) refl refl _ is)
+    let k = r .before .before .before .before in
+    r .replace .ensures ∙ replacing-left _ _ _ _ (write _ _) refl refl ∙ sym (decided (k .before .before) .passes _ (k .checked .given .1))
 
-returns-4 : tie.Need-returns-4
-unfolding badMatches lent
-returns-4 c = check-refuses _ _ _ (write _ _) refl refl _ (sym (c .before .before .before .check-tables .ensures) ∙ c .before .checked2 .given .1)
+returns-2 : tie.Need-returns-2
+unfolding lent
+returns-2 c = let k = c .before in refused-left (decided (k .before .before)) (k .checked2 .given .1)
 
 pub write-spec : {M : Type 1} → statement M
 write-spec =
     tie.close
-    (tie.spec (λ c κs. search needs) (λ c. search needs) (λ c κs. search needs) returns returns-2 replace-requires (λ c. search needs) (λ c. search needs)
-    (λ c. search needs) returns-3 returns-4)
+    (tie.spec (λ c κs. search needs) (λ c κs. search needs) (λ c κs. search needs) (λ c. search needs) replace-requires (λ c. search needs)
+    (λ c. search needs) (λ c. search needs) returns returns-2)

@@ -1,5 +1,4 @@
 -- `words::without_bit` meets its contract.
-use native.Mathlib.Omega.{arith}
 use borrow.Author.Needs.{needs}
 use Rattle.words.proofs.Machine.{clear-is}
 use Rattle.words.proofs.without_bit.Statement.{statement}

@@ -1,0 +1,115 @@
+// The search of first-match, and the joined word that both matches look at.
+use calls::Answer;
+use geometry::Geometry;
+use geometry::Refusal;
+use geometry::Sizes;
+use geometry::address::Address;
+use geometry::address::Offset;
+use geometry::address::SetIndex;
+ghost use Prim.Native.Nat.{_<_};
+ghost use mathlib.Core.Path.{_≡_};
+ghost use mathlib.Core.List.{[]};
+ghost use lib.ListN.{length};
+ghost use Rattle.geometry.specs.Sizes.{rowWords};
+ghost use Rattle.reference.specs.Search.{joined, firstFound, answerOf};
+ghost use Rattle.calls.specs.Answers.{answerFor, tables};
+ghost use Rattle.calls.specs.Passed.{Lent};
+
+// Word `j` of the key's rows, joined with and; padding bits are dropped.
+pub fn joined(g: Geometry, sizes: Sizes, indicators: &[u64], key: u32, j: usize) -> u64
+    requires { ⌜ Lent g sizes (g .depth) (length (now indicators)) × (j < rowWords g) ⌝ }
+    ensures { λ r. ⌜ r ≡ joined g (tables [] (now (indicators .entry))) key j ⌝ }
+{
+    let mut word = words::row_mask(sizes.sets, j);
+    let mut k = 0;
+    while k < sizes.stages {
+        let row = g.row(key, k);
+        word = indicators[sizes.row_words * row + j] & word;
+        k += 1;
+    }
+    word
+}
+
+// Where the search of the row words stops.
+enum Stop {
+    // A row word that is not 0, or 0 past the last one. Where a set is an address, the word tells the rest.
+    Word {
+        word: u64,
+        words_read: u16,
+    },
+    // An entry equal to the key.
+    Entry {
+        address: Address,
+        words_read: u16,
+        entries_compared: u16,
+    },
+    // An indicated set with no such entry.
+    FalseSet,
+}
+
+// The row words, ascending up to the first that is not 0; in the segmented kind then the entries of the set that its lowest
+// bit names, up to the equal one.
+pub fn first(g: Geometry, sizes: Sizes, store: &[u32], indicators: &[u64], key: u32) -> Answer
+    requires { ⌜ Lent g sizes (length (now store)) (length (now indicators)) ⌝ }
+    ensures { λ r. ⌜ answerFor r [] ≡ answerOf (firstFound g (tables (now (store .entry)) (now (indicators .entry))) key) ⌝ }
+{
+    let mut words_read: u16 = 0;
+    let mut j = 0;
+    let stop = 'words: loop {
+        if sizes.row_words <= j {
+            break Stop::Word {
+                word: 0,
+                words_read,
+            };
+        }
+        let word = joined(g, sizes, indicators, key, j);
+        words_read += 1;
+        if word != 0 {
+            if g.kind != 2 {
+                break Stop::Word { word, words_read };
+            }
+            let set = SetIndex::of_bit(j, words::lowest_bit(word));
+            let mut entries_compared: u16 = 0;
+            let mut at = Offset::first();
+            while at.is_within(g) {
+                let address = set.address(at, g);
+                entries_compared += 1;
+                if store[address.number() as usize] == key {
+                    break 'words Stop::Entry {
+                        address,
+                        words_read,
+                        entries_compared,
+                    };
+                }
+                at = at.next();
+            }
+            break Stop::FalseSet;
+        }
+        j += 1;
+    };
+    match stop {
+        Stop::Word { word, words_read } => {
+            if word == 0 {
+                return Answer::None { words_read };
+            }
+            let set = SetIndex::of_bit((words_read - 1) as usize, words::lowest_bit(word));
+            Answer::At {
+                address: set.address(Offset::first(), g),
+                words_read,
+                entries_compared: 0,
+            }
+        }
+        Stop::Entry {
+            address,
+            words_read,
+            entries_compared,
+        } => {
+            Answer::At {
+                address,
+                words_read,
+                entries_compared,
+            }
+        }
+        Stop::FalseSet => Answer::Refused(Refusal::FalseSet),
+    }
+}

@@ -1,0 +1,173 @@
+-- What the functions of `update` find in a turn of their loops and at the end of them: the rows of a pattern stage by stage,
+-- the addresses of a set one by one; and what `replace` makes of it.
+use Prim.Native.Nat.{ℕ, _+_, _*_, _/_, _%_, _^_, _<_}
+use mathlib.Core.Path.{_≡_, sym, _∙_}
+use mathlib.Core.Bool.{Bool, true, false, cond, not, _&&_, _||_}
+use mathlib.Core.List.{List, [], _∷_}
+use native.Mathlib.Omega.{arith}
+use lib.Dec.{eqb, ltb}
+use lib.ListN.{length, getD, set, drop}
+use borrow.Author.Tests.{ltb-false, eq-eqb, ne-eqb}
+use Rattle.words.specs.Rules.{member, keep, Nowhere}
+use Rattle.words.specs.Bits.{setBit, clearBit, changeBit}
+use Rattle.words.proofs.Rules.{any-true, any-false}
+use Rattle.words.proofs.Bits.{length-changeBit}
+use Rattle.geometry.specs.declared.Geometry.{Geometry}
+use Rattle.geometry.specs.declared.Sizes.{Sizes}
+use Rattle.geometry.specs.Valid.{valid}
+use Rattle.geometry.specs.Sizes.{sets, setOf, addressOf}
+use Rattle.geometry.specs.Stages.{stages, rowOf, rowsOf}
+use Rattle.geometry.proofs.Facts.{facts}
+use Rattle.geometry.proofs.Places.{set-lt, address-lt, word-lt}
+use Rattle.geometry.proofs.Stages.{rows-drop}
+use Rattle.reference.specs.Entry.{Entry, empty, pattern, emptyWord, wordOf}
+use Rattle.reference.specs.Calls.{refused, held}
+use Rattle.reference.specs.Tables.{Tables, storeEntry}
+use Rattle.reference.specs.Image.{entryRows, covers}
+use Rattle.reference.specs.Update.{change, othersCover, isReleased, released, replaced}
+use Rattle.reference.specs.Steps.{badEntry}
+use Rattle.calls.specs.Answers.{tables}
+use Rattle.calls.specs.Passed.{Sized, Lent}
+use Rattle.update.specs.Replacing.{replacing}
+use Rattle.calls.proofs.Tested.{entry-bad, entry-held}
+use Rattle.calls.proofs.Indexed.{word-within}
+
+-- ---- a row and its word for a set
+
+-- the rows from stage k on, of which the code has the first as r
+pub rows-first : (g : Geometry) (p k : ℕ) {r : ℕ} → r ≡ rowOf g p k → k < stages g → drop k (rowsOf g p) ≡ r ∷ drop (k + 1) (rowsOf g p)
+rows-first g p k e h = rw e (rows-drop g p k h)
+
+-- The word with the bit of set s in row r is one of n words, and no number of a word wraps.
+abbrev pub Within : Sizes → (r s n : ℕ) → Type 0
+Within sizes r s n = (sizes .«row_words» * r + s / 64 < n) × (n < 2 ^ 35)
+
+pub place-within : {g : Geometry} {sizes : Sizes} {store ind n k s r : ℕ} (p : ℕ) → Lent g sizes store ind → n ≡ ind → k < sizes .stages
+    → r ≡ rowOf g p k → s < sets g → Within sizes r s n
+place-within {g} {sizes} {store} {ind} {k = k} {s} {r} p l en hk er hs =
+    rw en (word-within g sizes store ind l p k r (s / 64) hk er (word-lt g (facts g (l .sized .is-valid)) s hs))
+
+-- the set of an address, which the code has as s
+pub set-within : (g : Geometry) {a s : ℕ} → valid g ≡ true → a < g .depth → s ≡ setOf g a → s < sets g
+set-within g {a} ok h e = rw e (set-lt g (facts g ok) a h)
+
+-- ---- the indicators while rows are changed
+
+-- The rows rs, which are left to be changed in set s, make `all` of the indicators; those are n words, as at first.
+pub record Left (f : ℕ → ℕ → ℕ) (g : Geometry) (s n : ℕ) (rs all ind : List ℕ) : Type 0 where
+  pub same-length : length ind ≡ n
+  pub makes : change f g s rs ind ≡ all
+
+module _ {f : ℕ → ℕ → ℕ} {g : Geometry} {s n : ℕ} {rs all ind : List ℕ} (h : Left f g s n rs all ind) where
+  -- the bit of the first of them is changed
+  pub change-first : {sizes : Sizes} {next rest : List ℕ} {r w b : ℕ} → Sized g sizes → rs ≡ r ∷ rest → w ≡ s / 64 → b ≡ s % 64
+      → next ≡ changeBit f ind (sizes .«row_words» * r + w) b → Left f g s n rest all next
+  unfolding change
+  change-first {b = b} z cut ew eb e = record {
+    same-length = rw e (length-changeBit f ind _ b ∙ h .same-length);
+    makes = rw (e, z .same-words, ew, eb) (rw cut at (h .makes));
+  }
+
+  -- nothing is changed
+  pub change-none : {next rest : List ℕ} → rs ≡ rest → next ≡ ind → Left f g s n rest all next
+  change-none same e = rw (e, ← same) h
+
+  pub change-end : rs ≡ [] → ind ≡ all
+  unfolding change
+  change-end e = rw e at (h .makes)
+
+-- Of some rows those that are released in the set of a when its next entry is e.
+abbrev pub givenUp : Geometry → Tables → (a : ℕ) → Entry → (rows : List ℕ) → List ℕ
+givenUp g t a e = keep (isReleased g t a (entryRows g e))
+
+-- by the first row, r, where `next` is whether e covers it, and `other` whether another address does
+module _ (g : Geometry) (t : Tables) (a : ℕ) (e : Entry) {rs rest : List ℕ} {r : ℕ} {next : Bool} (cut : rs ≡ r ∷ rest) (found : next ≡ covers g e r) where
+  pub kept-by-next : not next ≡ false → givenUp g t a e rs ≡ givenUp g t a e rest
+  unfolding keep covers
+  kept-by-next n = rw (cut, ← found, n)
+
+  pub others-decide : {other b : Bool} → not next ≡ true → other ≡ othersCover g t a r → not other ≡ b
+      → givenUp g t a e rs ≡ cond b (r ∷ givenUp g t a e rest) (givenUp g t a e rest)
+  unfolding keep covers
+  others-decide n others m = rw (cut, ← found, n, ← others, m)
+
+pub keep-end : (t : ℕ → Bool) {rs : List ℕ} → rs ≡ [] → keep t rs ≡ []
+unfolding keep
+keep-end t e = rw e
+
+-- ---- a row among the rows of an entry
+
+-- where the rows rs, which are left, decide
+module _ (x : ℕ) {rs : List ℕ} {among : Bool} (h : member x rs ≡ among) where
+  pub member-here : {rest : List ℕ} {r : ℕ} → rs ≡ r ∷ rest → r ≡ x → true ≡ among
+  unfolding member
+  member-here {r = r} cut e = rw (cut, eq-eqb x r (sym e)) at h
+
+  pub member-next : {rest : List ℕ} {r : ℕ} → rs ≡ r ∷ rest → (r ≡ x → ⊥) → member x rest ≡ among
+  unfolding member
+  member-next {r = r} cut n = rw (cut, ne-eqb x r (λ e. n (sym e))) at h
+
+  pub member-end : rs ≡ [] → false ≡ among
+  unfolding member
+  member-end e = rw e at h
+
+-- ---- the addresses of a set
+
+-- whether at offset o of the set of a there is another address, with an entry that covers the row
+abbrev pub otherCovers : Geometry → (store : List ℕ) → (a row o : ℕ) → Bool
+otherCovers g store a row o = not (eqb (addressOf g (setOf g a) o) a) && covers g (storeEntry g (tables store []) (addressOf g (setOf g a) o)) row
+
+-- The address at offset o of the set of a is b, and the store has it.
+pub record Beside (g : Geometry) (store : List ℕ) (a o b : ℕ) : Type 0 where
+  pub within : o < g .«set_width»
+  pub is : b ≡ addressOf g (setOf g a) o
+  pub inside : b < length store
+
+pub beside : (g : Geometry) (store : List ℕ) (a o b s : ℕ) → valid g ≡ true → length store ≡ g .depth → a < g .depth
+    → o < g .«set_width» → s ≡ setOf g a → b ≡ addressOf g s o → Beside g store a o b
+beside g store a o b s ok full ha ho es eb =
+    let f = facts g ok in
+    record { within = ho; is = rw (← es) eb; inside = rw (full, eb, es) (address-lt g f (setOf g a) o (set-lt g f a ha) ho) }
+
+-- by the code's test of b against m, its number of a
+module _ {g : Geometry} {store : List ℕ} {a o b m : ℕ} (row : ℕ) (h : Beside g store a o b) (number : m ≡ a) where
+  pub covers-not : b ≡ m → otherCovers g store a row o ≡ false
+  covers-not e = rw (eq-eqb (addressOf g (setOf g a) o) a (sym (h .is) ∙ e ∙ number))
+
+  -- r is whether the entry x that the code reads there covers the row
+  pub covers-other : {sizes : Sizes} {x : Entry} {r : Bool} → Sized g sizes → (b ≡ m → ⊥)
+      → x ≡ cond (ltb (getD store b 0) (sizes .patterns)) (pattern (getD store b 0)) empty → r ≡ covers g x row → otherCovers g store a row o ≡ r
+  covers-other z n ex er =
+      let there = addressOf g (setOf g a) o in
+      rw (er, ex, entry-held z store [] there b (h .is) (h .inside), ne-eqb there a (λ e. n (h .is ∙ e ∙ sym number)))
+
+module _ (g : Geometry) (store : List ℕ) (a row o : ℕ) where
+  pub others-found : o < g .«set_width» → otherCovers g store a row o ≡ true → true ≡ othersCover g (tables store []) a row
+  unfolding othersCover
+  others-found h e = sym (any-true (g .«set_width») (otherCovers g store a row) o h e)
+
+  pub others-none : ltb o (g .«set_width») ≡ false → Nowhere o (otherCovers g store a row) → false ≡ othersCover g (tables store []) a row
+  unfolding othersCover
+  others-none e h =
+      let past = ltb-false o (g .«set_width») e in
+      sym (any-false (g .«set_width») (otherCovers g store a row) (λ i l. h i (omega arith)))
+
+-- ---- an entry comes to an address
+
+-- e is the entry and a the address, which the code has as m; `sound` is what it found of the word there
+module _ {g : Geometry} {sizes : Sizes} (z : Sized g sizes) (store ind : List ℕ) {a m : ℕ} (e : Entry) {sound : Bool} (is : m ≡ a) (inside : m < length store)
+    (found : sound ≡ (eqb (getD store m 0) emptyWord || ltb (getD store m 0) (sizes .patterns))) where
+  bad : {b : Bool} → not sound ≡ b → badEntry g (tables store ind) a ≡ b
+  bad n = entry-bad z store ind a m is inside ∙ rw (← found) n
+
+  pub replace-refused : not sound ≡ true → record { answer = refused 5; tables = tables store ind; matches = [] } ≡ replacing g (tables store ind) a e
+  unfolding replacing
+  replace-refused n = rw (bad n)
+
+  -- x is the former entry, s the code's set of a and w its word of e; i₁ and i₂ are the indicators with bits set and then cleared
+  pub replace-done : {x : Entry} {s w : ℕ} {i₁ i₂ : List ℕ} → not sound ≡ false
+      → x ≡ cond (ltb (getD store m 0) (sizes .patterns)) (pattern (getD store m 0)) empty → s ≡ setOf g a → i₁ ≡ change setBit g s (entryRows g e) ind
+      → i₂ ≡ change clearBit g (setOf g a) (givenUp g (tables store []) a e (entryRows g x)) i₁ → w ≡ wordOf e
+      → record { answer = held x; tables = tables (set store m w) i₂; matches = [] } ≡ replacing g (tables store ind) a e
+  unfolding replacing replaced released othersCover
+  replace-done n ex es e₁ e₂ ew = rw (bad n, e₂, e₁, ex, entry-held z store ind a m is inside, es, ew, is)

@@ -1,4 +1,6 @@
-// All-match: whether an indicated set is false, and the addresses of the indicated sets that it takes.
+// All-match: whether an indicated set is false, and the addresses of the indicated sets that it takes. What the functions here
+// ask is what the check of the call has shown: a valid geometry and its sizes, tables and a match word of their lengths. That a
+// set is one of the geometry's follows from the joined word, which has no bit of padding.
 use geometry::Geometry;
 use geometry::Sizes;
 use geometry::address::Offset;

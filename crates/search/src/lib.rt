@@ -1,4 +1,6 @@
-// The search of first-match, and the joined word that both matches look at.
+// The search of first-match, and the joined word that both matches look at. What the functions here ask is what the check of
+// the call has shown: a valid geometry and its sizes, and tables of their lengths. The loops over row words show that a word is
+// one of the row.
 use calls::Answer;
 use geometry::Geometry;
 use geometry::Refusal;
@@ -32,17 +34,10 @@ pub fn joined(g: Geometry, sizes: Sizes, indicators: &[u64], key: u32, j: usize)
 
 // Where the search of the row words stops.
 enum Stop {
-    // A row word that is not 0, or 0 past the last one. Where a set is an address, the word tells the rest.
-    Word {
-        word: u64,
-        words_read: u16,
-    },
-    // An entry equal to the key.
-    Entry {
-        address: Address,
-        words_read: u16,
-        entries_compared: u16,
-    },
+    // A row word that is not 0, or 0 past the last one; and the words read. Where a set is an address, that tells the rest.
+    Word(u64, u16),
+    // The address of an entry equal to the key; the words read and the entries compared.
+    Entry(Address, u16, u16),
     // An indicated set with no such entry.
     FalseSet,
 }
@@ -57,16 +52,13 @@ pub fn first(g: Geometry, sizes: Sizes, store: &[u32], indicators: &[u64], key: 
     let mut j = 0;
     let stop = 'words: loop {
         if sizes.row_words <= j {
-            break Stop::Word {
-                word: 0,
-                words_read,
-            };
+            break Stop::Word(0, words_read);
         }
         let word = joined(g, sizes, indicators, key, j);
         words_read += 1;
         if word != 0 {
             if g.kind != 2 {
-                break Stop::Word { word, words_read };
+                break Stop::Word(word, words_read);
             }
             let set = SetIndex::of_bit(j, words::lowest_bit(word));
             let mut entries_compared: u16 = 0;
@@ -75,11 +67,7 @@ pub fn first(g: Geometry, sizes: Sizes, store: &[u32], indicators: &[u64], key: 
                 let address = set.address(at, g);
                 entries_compared += 1;
                 if store[address.number() as usize] == key {
-                    break 'words Stop::Entry {
-                        address,
-                        words_read,
-                        entries_compared,
-                    };
+                    break 'words Stop::Entry(address, words_read, entries_compared);
                 }
                 at = at.next();
             }
@@ -88,7 +76,7 @@ pub fn first(g: Geometry, sizes: Sizes, store: &[u32], indicators: &[u64], key: 
         j += 1;
     };
     match stop {
-        Stop::Word { word, words_read } => {
+        Stop::Word(word, words_read) => {
             if word == 0 {
                 return Answer::None { words_read };
             }
@@ -99,11 +87,7 @@ pub fn first(g: Geometry, sizes: Sizes, store: &[u32], indicators: &[u64], key: 
                 entries_compared: 0,
             }
         }
-        Stop::Entry {
-            address,
-            words_read,
-            entries_compared,
-        } => {
+        Stop::Entry(address, words_read, entries_compared) => {
             Answer::At {
                 address,
                 words_read,

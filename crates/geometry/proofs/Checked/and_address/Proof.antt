@@ -1,4 +1,5 @@
 -- `geometry::Checked::and_address` meets its contract: the two ways of its test, and a refusal that stands.
+use native.Mathlib.Omega.{arith}
 use borrow.Author.Needs.{needs}
 use borrow.Author.Tests.{le-leb, lt-leb}
 use Rattle.geometry.specs.Checks.{andRow}
@@ -9,13 +10,15 @@ returns : tie.Need-returns
 unfolding andRow
 returns c =
     let n = c .before .before in
-    rw (n .before .before .self .given .1, andRow, ← n .number .ensures, le-leb _ _ (c .if1 .taken))
+    let x = n .before .before .before .before .args in
+    rw (n .before .before .self .given .1, andRow, ← n .number .ensures, le-leb (x .g .depth) (n .number .result) (omega (arith, c .if1 .taken)))
 
 returns-2 : tie.Need-returns-2
 unfolding andRow
 returns-2 c =
     let n = c .before .before in
-    rw (n .before .before .self .given .1, andRow, ← n .number .ensures, lt-leb _ _ (c .if1 .left))
+    let x = n .before .before .before .before .args in
+    rw (n .before .before .self .given .1, andRow, ← n .number .ensures, lt-leb (x .g .depth) (n .number .result) (omega (arith, c .if1 .left)))
 
 returns-3 : tie.Need-returns-3
 unfolding andRow

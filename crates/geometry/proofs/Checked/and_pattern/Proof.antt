@@ -1,4 +1,5 @@
 -- `geometry::Checked::and_pattern` meets its contract: the two ways of its test, and a refusal that stands.
+use native.Mathlib.Omega.{arith}
 use borrow.Author.Needs.{needs}
 use borrow.Author.Tests.{le-leb, lt-leb}
 use Rattle.geometry.specs.Checks.{andRow}
@@ -7,11 +8,15 @@ use Rattle.geometry.proofs.Checked.and_pattern.Tie as tie
 
 returns : tie.Need-returns
 unfolding andRow
-returns c = rw (c .before .before .before .self .given .1, andRow, le-leb _ _ (c .if1 .taken))
+returns c =
+    let k = c .before .before .before in
+    rw (k .self .given .1, andRow, le-leb (k .self .given .0 .0 .patterns) (k .before .before .args .pattern) (omega (arith, c .if1 .taken)))
 
 returns-2 : tie.Need-returns-2
 unfolding andRow
-returns-2 c = rw (c .before .before .before .self .given .1, andRow, lt-leb _ _ (c .if1 .left))
+returns-2 c =
+    let k = c .before .before .before in
+    rw (k .self .given .1, andRow, lt-leb (k .self .given .0 .0 .patterns) (k .before .before .args .pattern) (omega (arith, c .if1 .left)))
 
 returns-3 : tie.Need-returns-3
 unfolding andRow

@@ -1,0 +1,28 @@
+-- The number that stands for an answer, and what an exported function gives and leaves.
+use Prim.Native.Nat.{ℕ, _+_, _*_}
+use mathlib.Core.Path.{_≡_}
+use mathlib.Core.List.{List}
+use Rattle.geometry.specs.declared.Geometry.{Geometry}
+use Rattle.reference.specs.Entry.{wordOf}
+use Rattle.reference.specs.Calls.{Call, Answer, refused, cleared, held, at, none, matched}
+use Rattle.reference.specs.Tables.{Tables}
+use Rattle.reference.specs.Steps.{step}
+
+-- Below 256 a refusal's number. Else 256 and a value: 0; the entry as the store has it; the address, 65,535 for none, with
+-- 65,536 times the words read and 2^32 times the entries compared; the number of hits.
+abbrev pub codeOf : Answer → ℕ
+codeOf (refused n) = n
+codeOf cleared = 256
+codeOf (held e) = 256 + wordOf e
+codeOf (at a w c) = 256 + a + 65536 * w + 4294967296 * c
+codeOf (none w c) = 256 + 65535 + 65536 * w + 4294967296 * c
+codeOf (matched ws n) = 256 + n
+
+abbrev pub four : (kind depth width set : ℕ) → Geometry
+four k d p w = record { kind = k; depth = d; «pattern_width» = p; «set_width» = w }
+
+-- The number is that of the step's answer, and the tables and the match word are the step's.
+pub record Coded (g : Geometry) (c : Call (List ℕ)) (r : ℕ) (before after : Tables) (now : List ℕ) : Type 0 where
+  pub answer : r ≡ codeOf (step g before c .answer)
+  pub tables : after ≡ step g before c .tables
+  pub matches : now ≡ step g before c .matches

@@ -1,0 +1,150 @@
+// The six calls for callers in C and Rust. A geometry is passed as its four numbers, a slice as its pointer and its length in
+// elements. What comes back is one number: below 256 it is that of a refusal, which changed nothing; else it is 256 and the
+// value that stands at each function.
+use calls::Answer;
+use geometry::Geometry;
+use geometry::address::Address;
+ghost use mathlib.Core.Path.{_≡_};
+ghost use mathlib.Core.List.{[]};
+ghost use Rattle.reference.specs.Calls.{clear, write, erase, read, firstMatch, allMatch};
+ghost use Rattle.calls.specs.Answers.{answerFor, tables};
+ghost use Rattle.cam_abi.specs.Codes.{codeOf, four, Coded};
+
+// The geometry of the four numbers.
+fn four(kind: u32, depth: u32, pattern_width: u32, set_width: u32) -> Geometry
+    ensures { λ r. ⌜ r ≡ four kind depth «pattern_width» «set_width» ⌝ }
+{
+    Geometry {
+        kind,
+        depth,
+        pattern_width,
+        set_width,
+    }
+}
+
+// The number of an answer.
+fn code(answer: Answer) -> u64
+    ensures { λ r. ⌜ r ≡ codeOf (answerFor answer []) ⌝ }
+{
+    match answer {
+        Answer::Refused(why) => why.number() as u64,
+        Answer::Cleared => 256,
+        Answer::Held(entry) => 256 + entry.word() as u64,
+        Answer::At {
+            address,
+            words_read,
+            entries_compared,
+        } => {
+            256
+                + address.number() as u64
+                + 65536 * words_read as u64
+                + 0x1_0000_0000 * entries_compared as u64
+        }
+        Answer::None { words_read } => 256 + 65535 + 65536 * words_read as u64,
+        Answer::Matched { hits } => 256 + hits as u64,
+    }
+}
+
+// Empties every address. The value is 0.
+#[no_mangle]
+pub extern "C" fn cam_clear(
+    kind: u32,
+    depth: u32,
+    pattern_width: u32,
+    set_width: u32,
+    store: &mut [u32],
+    indicators: &mut [u64],
+) -> u64
+    ensures { λ r. ⌜ Coded (four kind depth «pattern_width» «set_width») clear r (tables (now (store .entry)) (now (indicators .entry))) (tables (now (store .exit)) (now (indicators .exit))) [] ⌝ }
+{
+    let g = four(kind, depth, pattern_width, set_width);
+    code(memory::clear(g, store, indicators))
+}
+
+// The pattern comes to the address. The value is the word that the store had there, 0xffff_ffff for empty.
+#[no_mangle]
+pub extern "C" fn cam_write(
+    kind: u32,
+    depth: u32,
+    pattern_width: u32,
+    set_width: u32,
+    store: &mut [u32],
+    indicators: &mut [u64],
+    address: u32,
+    pattern: u32,
+) -> u64
+    ensures { λ r. ⌜ Coded (four kind depth «pattern_width» «set_width») (write address pattern) r (tables (now (store .entry)) (now (indicators .entry))) (tables (now (store .exit)) (now (indicators .exit))) [] ⌝ }
+{
+    let g = four(kind, depth, pattern_width, set_width);
+    code(memory::write(g, store, indicators, Address::new(address), pattern))
+}
+
+// Empties the address. The value is the word that the store had there, 0xffff_ffff for empty.
+#[no_mangle]
+pub extern "C" fn cam_erase(
+    kind: u32,
+    depth: u32,
+    pattern_width: u32,
+    set_width: u32,
+    store: &mut [u32],
+    indicators: &mut [u64],
+    address: u32,
+) -> u64
+    ensures { λ r. ⌜ Coded (four kind depth «pattern_width» «set_width») (erase address) r (tables (now (store .entry)) (now (indicators .entry))) (tables (now (store .exit)) (now (indicators .exit))) [] ⌝ }
+{
+    let g = four(kind, depth, pattern_width, set_width);
+    code(memory::erase(g, store, indicators, Address::new(address)))
+}
+
+// The value is the word that the store has at the address, 0xffff_ffff for empty.
+#[no_mangle]
+pub extern "C" fn cam_read(
+    kind: u32,
+    depth: u32,
+    pattern_width: u32,
+    set_width: u32,
+    store: &[u32],
+    indicators: &[u64],
+    address: u32,
+) -> u64
+    ensures { λ r. ⌜ Coded (four kind depth «pattern_width» «set_width») (read address) r (tables (now (store .entry)) (now (indicators .entry))) (tables (now (store .entry)) (now (indicators .entry))) [] ⌝ }
+{
+    let g = four(kind, depth, pattern_width, set_width);
+    code(memory::read(g, store, indicators, Address::new(address)))
+}
+
+// The value is the lowest address that holds the pattern, or 65,535 for none, and with it 65,536 times the words read and
+// 2^32 times the entries compared.
+#[no_mangle]
+pub extern "C" fn cam_first_match(
+    kind: u32,
+    depth: u32,
+    pattern_width: u32,
+    set_width: u32,
+    store: &[u32],
+    indicators: &[u64],
+    pattern: u32,
+) -> u64
+    ensures { λ r. ⌜ Coded (four kind depth «pattern_width» «set_width») (firstMatch pattern) r (tables (now (store .entry)) (now (indicators .entry))) (tables (now (store .entry)) (now (indicators .entry))) [] ⌝ }
+{
+    let g = four(kind, depth, pattern_width, set_width);
+    code(memory::first_match(g, store, indicators, pattern))
+}
+
+// The bit of each address that holds the pattern is set in the match word, every other one is 0. The value is their number.
+#[no_mangle]
+pub extern "C" fn cam_all_match(
+    kind: u32,
+    depth: u32,
+    pattern_width: u32,
+    set_width: u32,
+    store: &[u32],
+    indicators: &[u64],
+    matches: &mut [u64],
+    pattern: u32,
+) -> u64
+    ensures { λ r. ⌜ Coded (four kind depth «pattern_width» «set_width») (allMatch pattern (now (matches .entry))) r (tables (now (store .entry)) (now (indicators .entry))) (tables (now (store .entry)) (now (indicators .entry))) (now (matches .exit)) ⌝ }
+{
+    let g = four(kind, depth, pattern_width, set_width);
+    code(memory::all_match(g, store, indicators, matches, pattern))
+}

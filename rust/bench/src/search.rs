@@ -1,0 +1,106 @@
+//! The searches that are timed, and how.
+
+use crate::memory::Memory;
+use std::hint::black_box;
+use std::time::Instant;
+
+/// What stands for no address, as first-match's code has it.
+const NONE: u32 = 65_535;
+
+pub enum Search<'a> {
+    FirstMatch(&'a Memory),
+    Loop(&'a [u32]),
+    LoopBySixteens(&'a [u32]),
+}
+
+/// Half of the keys are absent, the rest spread evenly over the stored patterns; in an order that
+/// cannot be foreseen.
+pub fn keys(memory: &Memory, count: u32) -> Vec<u32> {
+    let stored = memory.stored();
+    let mut keys: Vec<u32> = (0..count)
+        .map(|i| match i % 2 {
+            0 => memory.pattern(stored + i / 2 % stored),
+            _ => memory.pattern(i / 2 % stored),
+        })
+        .collect();
+    let mut state: u64 = 1;
+    for last in (1..keys.len()).rev() {
+        state = state
+            .wrapping_mul(6_364_136_223_846_793_005)
+            .wrapping_add(1);
+        keys.swap(last, (state >> 33) as usize % (last + 1));
+    }
+    keys
+}
+
+/// From address 0 to the first equal entry.
+#[inline(never)]
+fn plain_loop(store: &[u32], key: u32) -> u32 {
+    for (address, &entry) in store.iter().enumerate() {
+        if entry == key {
+            return address as u32;
+        }
+    }
+    NONE
+}
+
+/// The same, but sixteen entries are compared before it is asked whether one was equal, which the
+/// compiler turns into vector instructions.
+#[inline(never)]
+fn loop_by_sixteens(store: &[u32], key: u32) -> u32 {
+    for (block, entries) in store.chunks(16).enumerate() {
+        let equal = entries
+            .iter()
+            .fold(false, |any, &entry| any | (entry == key));
+        if equal {
+            return 16 * block as u32 + plain_loop(entries, key);
+        }
+    }
+    NONE
+}
+
+impl Search<'_> {
+    /// Seconds for all keys.
+    fn time(&self, keys: &[u32]) -> f64 {
+        let start = Instant::now();
+        match self {
+            Search::FirstMatch(memory) => run(keys, |key| memory.first_match(key)),
+            Search::Loop(store) => run(keys, |key| plain_loop(black_box(store), key)),
+            Search::LoopBySixteens(store) => {
+                run(keys, |key| loop_by_sixteens(black_box(store), key))
+            }
+        }
+        start.elapsed().as_secs_f64()
+    }
+}
+
+/// Nothing of a search can be left out or shared between keys.
+fn run(keys: &[u32], search: impl Fn(u32) -> u32) {
+    for &key in keys {
+        black_box(search(black_box(key)));
+    }
+}
+
+/// The best time of each search. The searches take turns, in one order and then in the other.
+pub fn best_of_rounds(searches: &[Search], keys: &[u32], rounds: usize) -> Vec<f64> {
+    let mut best = vec![f64::INFINITY; searches.len()];
+    for round in 0..rounds {
+        for turn in 0..searches.len() {
+            let i = match round % 2 {
+                0 => turn,
+                _ => searches.len() - 1 - turn,
+            };
+            best[i] = best[i].min(searches[i].time(keys));
+        }
+    }
+    best
+}
+
+/// Times of different answers say nothing: every search must give the same address for every key.
+pub fn agree(memory: &Memory, keys: &[u32]) {
+    for &key in keys {
+        let address = memory.first_match(key);
+        assert_eq!(address, plain_loop(&memory.store, key), "key {key}");
+        assert_eq!(address, loop_by_sixteens(&memory.store, key), "key {key}");
+    }
+}

@@ -1,0 +1,173 @@
+//! What the random trials met. A run that never met one of its subjects has tested nothing of it,
+//! and fails.
+
+use crate::call::{Answer, Call};
+use crate::geometry::{Geometry, SEGMENTED};
+use crate::subjects::{self, Subject};
+use std::collections::BTreeMap;
+
+/// What must be met: the answers of each call, in every kind where they can occur, and the
+/// subjects.
+pub struct Required {
+    answers: &'static [(&'static str, &'static [&'static str])],
+    subjects: &'static [Subject],
+}
+
+pub const OF_HISTORIES: Required = Required {
+    answers: &[
+        ("clear", &["cleared"]),
+        ("write", &["refusal 3", "refusal 4", "empty", "pattern"]),
+        ("erase", &["refusal 3", "empty", "pattern"]),
+        ("read", &["refusal 3", "empty", "pattern"]),
+        ("first-match", &["refusal 4", "none", "at"]),
+        ("all-match", &["refusal 2", "refusal 4", "no hits", "hits"]),
+    ],
+    subjects: subjects::OF_HISTORIES,
+};
+
+pub const OF_SINGLE_CALLS: Required = Required {
+    answers: &[
+        ("clear", &["refusal 1", "refusal 2", "cleared"]),
+        (
+            "write",
+            &[
+                "refusal 1",
+                "refusal 2",
+                "refusal 3",
+                "refusal 4",
+                "refusal 5",
+                "empty",
+                "pattern",
+            ],
+        ),
+        (
+            "erase",
+            &[
+                "refusal 1",
+                "refusal 2",
+                "refusal 3",
+                "refusal 5",
+                "empty",
+                "pattern",
+            ],
+        ),
+        (
+            "read",
+            &[
+                "refusal 1",
+                "refusal 2",
+                "refusal 3",
+                "refusal 5",
+                "empty",
+                "pattern",
+            ],
+        ),
+        (
+            "first-match",
+            &[
+                "refusal 1",
+                "refusal 2",
+                "refusal 4",
+                "refusal 6",
+                "none",
+                "at",
+            ],
+        ),
+        (
+            "all-match",
+            &[
+                "refusal 1",
+                "refusal 2",
+                "refusal 4",
+                "refusal 6",
+                "no hits",
+                "hits",
+            ],
+        ),
+    ],
+    subjects: subjects::OF_SINGLE_CALLS,
+};
+
+/// How often each answer of each call came in each kind, and how often each subject was met.
+#[derive(Default)]
+pub struct Tally {
+    answers: BTreeMap<(u32, &'static str, &'static str), u64>,
+    subjects: BTreeMap<Subject, u64>,
+}
+
+impl Tally {
+    pub fn count(&mut self, g: &Geometry, call: &Call, answer: &Answer, met: Vec<Subject>) {
+        let key = (g.kind, call.name(), label(answer));
+        *self.answers.entry(key).or_default() += 1;
+        for subject in met {
+            *self.subjects.entry(subject).or_default() += 1;
+        }
+    }
+
+    fn answers_in(&self, kind: u32, call: &'static str, answer: &'static str) -> u64 {
+        let count = self.answers.get(&(kind, call, answer));
+        count.copied().unwrap_or(0)
+    }
+
+    fn met(&self, subject: Subject) -> u64 {
+        self.subjects.get(subject).copied().unwrap_or(0)
+    }
+
+    /// Prints how often each thing that is required was met.
+    pub fn print(&self, required: &Required) {
+        for (call, answers) in required.answers {
+            let counts: Vec<String> = answers
+                .iter()
+                .map(|answer| {
+                    let all_kinds: u64 = (0..=2).map(|k| self.answers_in(k, call, answer)).sum();
+                    format!("{answer}: {all_kinds}")
+                })
+                .collect();
+            println!("    {call}, {}", counts.join(", "));
+        }
+        for subject in required.subjects {
+            println!("    {subject}: {}", self.met(subject));
+        }
+    }
+
+    /// What is required and was never met.
+    pub fn missing(&self, required: &Required) -> Vec<String> {
+        let mut missing = Vec::new();
+        for (call, answers) in required.answers {
+            for answer in *answers {
+                for kind in 0..=2 {
+                    let can_occur = *answer != "refusal 6" || kind == SEGMENTED;
+                    if can_occur && self.answers_in(kind, call, answer) == 0 {
+                        missing.push(format!("kind {kind}, {call}: {answer}"));
+                    }
+                }
+            }
+        }
+        let subjects = required.subjects.iter();
+        missing.extend(
+            subjects
+                .filter(|subject| self.met(subject) == 0)
+                .map(|subject| subject.to_string()),
+        );
+        missing
+    }
+}
+
+fn label(answer: &Answer) -> &'static str {
+    match answer {
+        Answer::Refused(1) => "refusal 1",
+        Answer::Refused(2) => "refusal 2",
+        Answer::Refused(3) => "refusal 3",
+        Answer::Refused(4) => "refusal 4",
+        Answer::Refused(5) => "refusal 5",
+        Answer::Refused(6) => "refusal 6",
+        Answer::Refused(_) => unreachable!("no other number is ever right"),
+        Answer::Cleared => "cleared",
+        Answer::Entry(None) => "empty",
+        Answer::Entry(Some(_)) => "pattern",
+        Answer::NoMatch { .. } => "none",
+        Answer::At { .. } => "at",
+        Answer::Matches { hits: 0, .. } => "no hits",
+        Answer::Matches { .. } => "hits",
+    }
+}

@@ -1,0 +1,130 @@
+//! Random geometries, and the few addresses and patterns that a trial keeps coming back to.
+
+use crate::geometry::{geometry, Geometry, CASCADED, SEGMENTED, TRANSPOSED};
+use crate::random::Random;
+
+/// Depths, or numbers of sets, around the places where a row gets another word.
+const AROUND_WORDS: [u32; 9] = [63, 64, 65, 127, 128, 129, 191, 192, 193];
+
+/// The largest tables of each kind.
+const LARGEST: [Geometry; 4] = [
+    geometry(TRANSPOSED, 4096, 12, 1),
+    geometry(CASCADED, 4096, 27, 1),
+    geometry(SEGMENTED, 4096, 12, 1),
+    geometry(SEGMENTED, 4096, 12, 64),
+];
+
+/// A valid geometry. Most have small tables, so that a run stays short, and few the largest there
+/// are.
+pub fn random_geometry(random: &mut Random) -> Geometry {
+    if random.one_in(2500) {
+        return random.pick(&LARGEST);
+    }
+    let mut g = match random.pick(&[TRANSPOSED, CASCADED, SEGMENTED, SEGMENTED]) {
+        TRANSPOSED => geometry(TRANSPOSED, places(random), narrow(random), 1),
+        CASCADED => geometry(CASCADED, places(random), wide(random), 1),
+        _ => segmented(random),
+    };
+    let most_words = random.pick(&[1 << 12, 1 << 12, 1 << 12, 1 << 13]);
+    while g.indicator_words() > most_words {
+        g.pattern_width -= 1;
+    }
+    g
+}
+
+/// A number of addresses, or of sets.
+fn places(random: &mut Random) -> u32 {
+    match random.below(32) {
+        0 => 4096,
+        1 => random.between(1, 4096),
+        2..=12 => random.pick(&AROUND_WORDS),
+        _ => random.between(1, 16),
+    }
+}
+
+fn narrow(random: &mut Random) -> u32 {
+    match random.below(8) {
+        0 => 12,
+        1 => random.between(5, 12),
+        _ => random.between(1, 4),
+    }
+}
+
+fn wide(random: &mut Random) -> u32 {
+    match random.below(3) {
+        0 => random.between(1, 27),
+        _ => random.pick(&[1, 8, 9, 10, 17, 18, 19, 26, 27]),
+    }
+}
+
+fn segmented(random: &mut Random) -> Geometry {
+    let set_width = match random.below(4) {
+        0 => random.pick(&[1, 16, 32, 63, 64]),
+        _ => random.between(1, 8),
+    };
+    let sets = places(random).min(4096 / set_width);
+    geometry(SEGMENTED, sets * set_width, narrow(random), set_width)
+}
+
+/// Few addresses and few patterns, so that calls meet one another.
+pub struct Pool {
+    pub addresses: Vec<u32>,
+    pub patterns: Vec<u32>,
+}
+
+impl Pool {
+    pub fn random(random: &mut Random, g: &Geometry) -> Pool {
+        let addresses = addresses(random, g);
+        let patterns = (0..random.between(1, 4)).map(|_| random_pattern(random, g));
+        let mut pool = Pool {
+            addresses,
+            patterns: patterns.collect(),
+        };
+        if g.stages() > 1 {
+            let mixtures: Vec<u32> = (0..3).map(|_| pool.mixture(random, g)).collect();
+            pool.patterns.extend(mixtures);
+        }
+        pool
+    }
+
+    pub fn address(&self, random: &mut Random) -> u32 {
+        random.pick(&self.addresses)
+    }
+
+    /// A pattern of the pool, at times any other.
+    pub fn pattern(&self, random: &mut Random, g: &Geometry) -> u32 {
+        match random.below(8) {
+            0 => random_pattern(random, g),
+            _ => random.pick(&self.patterns),
+        }
+    }
+
+    /// A pattern of kind 1 of which each stage is that of some pattern of the pool.
+    pub fn mixture(&self, random: &mut Random, g: &Geometry) -> u32 {
+        let stages = (0..g.stages()).map(|stage| {
+            let pattern = random.pick(&self.patterns);
+            (g.stage_value(pattern, stage) as u32) << (9 * stage)
+        });
+        stages.sum()
+    }
+}
+
+/// Some address with its neighbours, the ends, the ends of a row's first word, and any others.
+fn addresses(random: &mut Random, g: &Geometry) -> Vec<u32> {
+    let last = g.depth - 1;
+    let base = random.below(g.depth);
+    let word = 64 * g.set_width;
+    let mut addresses = vec![base, (base + 1).min(last), base.saturating_sub(1)];
+    for _ in 0..random.below(6) {
+        let any = random.below(g.depth);
+        let chosen = random.pick(&[0, last, word - 1, word, any, base ^ 1]);
+        addresses.push(chosen.min(last));
+    }
+    addresses
+}
+
+fn random_pattern(random: &mut Random, g: &Geometry) -> u32 {
+    let highest = g.patterns() - 1;
+    let any = random.below(g.patterns());
+    random.pick(&[0, 1, highest, any, any])
+}

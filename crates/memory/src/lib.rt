@@ -13,8 +13,8 @@ ghost use mathlib.Core.Path.{_≡_};
 ghost use mathlib.Core.List.{[]};
 ghost use Rattle.reference.specs.Calls.{clear, write, erase, read, firstMatch, allMatch};
 ghost use Rattle.reference.specs.Steps.{step};
-ghost use Rattle.reference.specs.Line.{line};
 ghost use Rattle.calls.specs.Answers.{tables, left, Performed};
+ghost use Rattle.memory.specs.Lines.{HandsBack};
 
 // Empties every address.
 pub fn clear(g: Geometry, store: &mut [u32], indicators: &mut [u64]) -> Answer
@@ -137,7 +137,7 @@ pub fn all_match(
 
 // The line of a set: that part of the store itself. A bad geometry, store length or set number gives an empty part.
 pub fn line(g: Geometry, store: &[u32], set: u32) -> &[u32]
-    ensures { λ r. ⌜ now r ≡ line g (now (store .entry)) set ⌝ }
+    ensures { λ r. ⌜ HandsBack g (store .entry) r set ⌝ }
 {
     let checked = g.check();
     match checked {

@@ -1,18 +1,23 @@
 -- `memory::line` meets its contract: the set's part of the store, or an empty part where the geometry, the length or the set
 -- is bad.
-use Prim.Native.Nat.{_-_, _<_}
-use mathlib.Core.Path.{_≡_, sym, _∙_}
+use Prim.Native.Nat.{ℕ, _-_, _<_}
+use mathlib.Core.Path.{_≡_, refl, sym, _∙_}
+use mathlib.Core.List.{List, []}
 use mathlib.Core.Logic.{⊎-elim}
-use native.Mathlib.Nat.{add-sub-cancel-left}
+use native.Mathlib.Nat.{add-sub-cancel-left, mul-comm}
 use native.Mathlib.Omega.{arith}
+use denote.Ref.{RefT, now}
 use borrow.Author.Needs.{needs}
 use borrow.Author.Tests.{ltb-true, eq-eqb, ne-eqb}
+use Rattle.geometry.specs.declared.Geometry.{Geometry}
 use Rattle.geometry.specs.Sizes.{sets, addressOf}
 use Rattle.geometry.proofs.Facts.{facts}
 use Rattle.geometry.proofs.Places.{address-lt}
 use Rattle.geometry.proofs.Bounds.{sets-few}
+use Rattle.reference.specs.Line.{line}
 use Rattle.reference.proofs.Line.{true-line, line-refused}
 use Rattle.calls.specs.Passed.{Sized}
+use Rattle.memory.specs.Lines.{HandsBack}
 use Rattle.memory.proofs.Stops.{checked-sized, checked-invalid}
 use Rattle.memory.proofs.line.Statement.{statement}
 use Rattle.memory.proofs.line.Tie as tie
@@ -54,27 +59,34 @@ part-result-end c =
     let last = address-lt (x .g) f (x .set) (x .g .«set_width» - 1) (set-at t) (omega (arith, f .set-pos)) in
     omega (arith, last, f .set-pos, from-at (c .before), t .before .before .if1 .taken)
 
+-- a part that is empty need not lie anywhere
+empty-part : {g : Geometry} {store part : RefT (List ℕ)} {s : ℕ} → line g (now store) s ≡ [] → now part ≡ [] → HandsBack g store part s
+empty-part e f = record { entries = f ∙ sym e; itself = λ some. absurd (some f) }
+
 returns : tie.Need-returns
 returns c =
     let n = c .before .before in
     let t = n .before .before .before .before in
     let x = t .before .before .before .before .before .before .before .before .before .args in
     let ok = sized-at (t .before .before .before .before .before) .is-valid in
-    rw (add-sub-cancel-left, from-at n) (sym (true-line (x .g) (x .store .now) (x .set) ok (t .before .before .if1 .taken) (set-at t)))
+    record {
+      entries = rw (add-sub-cancel-left, from-at n) (sym (true-line (x .g) (x .store .now) (x .set) ok (t .before .before .if1 .taken) (set-at t)));
+      itself = λ some. rw (from-at n, mul-comm (addressOf (x .g) (x .set) 0) 4);
+    }
 
 returns-2 : tie.Need-returns-2
 returns-2 c =
     let j = c .before in
     let x = j .before .before .before .before .before .before .before .args in
     let z = sized-at (j .before .before .before) in
-    sym (line-refused (x .g) (x .store .now) (x .set)
-    (rw (z .is-valid, ← z .same-sets) (⊎-elim (λ w. rw (eq-eqb _ _ (w .0 .taken)) (w .2 .left)) (λ w. rw (ne-eqb _ _ (w .left))) (j .if1 .came))))
+    empty-part (line-refused (x .g) (x .store .now) (x .set)
+    (rw (z .is-valid, ← z .same-sets) (⊎-elim (λ w. rw (eq-eqb _ _ (w .0 .taken)) (w .2 .left)) (λ w. rw (ne-eqb _ _ (w .left))) (j .if1 .came)))) refl
 
 returns-3 : tie.Need-returns-3
 returns-3 c =
     let k = c .before in
     let bad = checked-invalid _ _ (sym (k .before .before .check .ensures) ∙ k .enum-told .given .1) in
-    sym (line-refused _ _ _ (rw bad))
+    empty-part (line-refused _ _ _ (rw bad)) refl
 
 pub line-spec : {M : Type 1} → statement M
 line-spec =

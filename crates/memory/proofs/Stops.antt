@@ -73,7 +73,7 @@ matches-checked g t key m = go (checked g) (tablesFit g (length (t .store)) (len
     go (Refused why) a b = refl
 
 -- What the functions below a call ask for.
-pub sized-of : (g : Geometry) (s : Sizes) → valid g ≡ true → s ≡ sizesOf g → Sized g s
+sized-of : (g : Geometry) (s : Sizes) → valid g ≡ true → s ≡ sizesOf g → Sized g s
 unfolding sizesOf
 sized-of g s v e = record { is-valid = v; same-patterns = rw e; same-sets = rw e; same-words = rw e; same-stages = rw e }
 

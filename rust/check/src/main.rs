@@ -58,8 +58,16 @@ fn run(options: &Options) -> Counts {
         }
         return counts;
     }
-    counts.add(parts::run_scripts("cases of document 01", cases::cases()));
-    counts.add(parts::run_scripts("outside vectors", vectors::vectors()));
+    counts.add(parts::run_scripts(
+        options,
+        "cases of document 01",
+        cases::cases(),
+    ));
+    counts.add(parts::run_scripts(
+        options,
+        "outside vectors",
+        vectors::vectors(),
+    ));
     counts.add(HISTORIES.run_all(options, options.histories));
     counts.add(SINGLE_CALLS.run_all(options, options.calls));
     counts

@@ -8,7 +8,7 @@ check: runs the library beside document 01, written out a second time
   --calls N          number of random single calls (default 200000)
   --only-history I   run history I of this seed and nothing else
   --only-call I      run single call I of this seed and nothing else
-  --trace            print the number of each random trial before it runs, to find one that crashes
+  --trace            print the name or number of each trial before it runs, to find one that crashes
   --help             print this
 
 Each case, vector, history and single call counts one, and so does, for both random parts, that

@@ -43,9 +43,12 @@ impl fmt::Display for Counts {
     }
 }
 
-pub fn run_scripts(name: &str, scripts: Vec<Script>) -> Counts {
+pub fn run_scripts(options: &Options, name: &str, scripts: Vec<Script>) -> Counts {
     let mut counts = Counts::default();
     for script in scripts {
+        if options.trace {
+            println!("{}", script.name);
+        }
         let outcome = script.run();
         let shown = counts.failed < SHOWN_FAILURES;
         counts.count(outcome.is_ok());

@@ -1,6 +1,6 @@
 -- What the checks give: the sizes of a geometry, or document 01's refusals 1 to 4 in their order.
 use Prim.Native.Nat.{ℕ}
-use mathlib.Core.Bool.{Bool, true, false, cond, _&&_}
+use mathlib.Core.Bool.{Bool, cond, not, _&&_}
 use lib.Dec.{eqb, leb}
 use Rattle.geometry.specs.declared.Geometry.{Geometry}
 use Rattle.geometry.specs.declared.Sizes.{Sizes}
@@ -36,26 +36,22 @@ sizesOf g = record {
 unfoldable pub checked : Geometry → Checked
 checked g = cond (valid g) (Accepted (sizesOf g)) (Refused BadGeometry)
 
--- Refusal 2 where the lengths are not right, and 1 was not given.
-unfoldable pub andLengths : Checked → (right : Bool) → Checked
-andLengths (Accepted sizes) true = Accepted sizes
-andLengths (Accepted sizes) false = Refused BadLengths
-andLengths (Refused why) right = Refused why
+-- One row more of document 01's table: its refusal where its test holds, and no row above it was given.
+unfoldable pub andRow : Checked → Refusal → (test : Sizes → Bool) → Checked
+andRow (Accepted sizes) why test = cond (test sizes) (Refused why) (Accepted sizes)
+andRow (Refused above) why test = Refused above
 
 -- "store not D, indicators not R × all rows" is where this is false.
 abbrev pub tablesFit : Geometry → (store indicators : ℕ) → Bool
 tablesFit g store indicators = eqb store (g .depth) && eqb indicators (indicatorWords g)
 
 unfoldable pub checkedTables : Geometry → (store indicators : ℕ) → Checked
-checkedTables g store indicators = andLengths (checked g) (tablesFit g store indicators)
+checkedTables g store indicators = andRow (checked g) BadLengths (λ sizes. not (tablesFit g store indicators))
 
+-- "or match word not D / 64 rounded up"
 unfoldable pub checkedMatches : Geometry → (store indicators matches : ℕ) → Checked
-checkedMatches g store indicators matches = andLengths (checkedTables g store indicators) (eqb matches (matchWords g))
-
--- One row more: its refusal where its test holds, and no row above it was given.
-unfoldable pub andRow : Checked → Refusal → (test : Sizes → Bool) → Checked
-andRow (Accepted sizes) why test = cond (test sizes) (Refused why) (Accepted sizes)
-andRow (Refused above) why test = Refused above
+checkedMatches g store indicators matches =
+    andRow (checkedTables g store indicators) BadLengths (λ sizes. not (eqb matches (matchWords g)))
 
 -- "address is D or more"
 abbrev pub andAddress : Checked → Geometry → (address : ℕ) → Checked

@@ -49,7 +49,7 @@ impl Address {
 
 impl SetIndex {
     // The set that a bit of a row belongs to. The searches show what is asked: a row has 64 words at most, and the bit is
-    // the lowest one of a word that is not 0.
+    // the lowest one of a word that is not 0. The line shows it of a set number that is one of the geometry's.
     pub fn of_bit(word: usize, bit: u32) -> Self
         requires { ⌜ (word < 64) × (bit < 64) ⌝ }
         ensures { λ r. ⌜ r .0 ≡ 64 * word + bit ⌝ }

@@ -2,68 +2,72 @@
 -- are left.
 use Prim.Native.Nat.{ℕ, _<_}
 use mathlib.Core.Path.{_≡_, refl, sym, _∙_}
-use mathlib.Core.Bool.{Bool, true, false, cond}
+use mathlib.Core.Bool.{Bool, true, false, cond, not, _||_, or-false}
 use mathlib.Core.List.{List, _∷_}
 use mathlib.Core.Option.{some}
-use native.Mathlib.Omega.{arith}
-use lib.Dec.{leb}
+use lib.Dec.{eqb, leb}
 use lib.ListN.{length}
 use borrow.Author.Tests.{leb-false}
 use Rattle.geometry.specs.declared.Geometry.{Geometry}
 use Rattle.geometry.specs.declared.Sizes.{Sizes}
 use Rattle.geometry.specs.declared.Refusal.{Refusal}
-use Rattle.geometry.specs.declared.Refusal.the-variants.{BadAddress, BadPattern}
+use Rattle.geometry.specs.declared.Refusal.the-variants.{BadGeometry, BadLengths, BadAddress, BadPattern}
 use Rattle.geometry.specs.declared.Checked.{Checked}
 use Rattle.geometry.specs.declared.Checked.the-variants.{Accepted, Refused}
-use Rattle.geometry.specs.Checks.{numberOf, checkedTables, checkedMatches, andRow, andAddress, andPattern}
+use Rattle.geometry.specs.Valid.{valid}
+use Rattle.geometry.specs.Sizes.{matchWords}
+use Rattle.geometry.specs.Checks.{numberOf, sizesOf, checked, andRow, tablesFit, checkedTables, checkedMatches, andAddress, andPattern}
+use Rattle.geometry.proofs.Acceptance.{never, row-accepted}
 use Rattle.reference.specs.Calls.{Call, allMatch}
 use Rattle.reference.specs.Refusals.{RefusalRow, _given-when_, firstRefusal, badAddress, badPattern}
 use Rattle.reference.specs.Tables.{Tables}
-use Rattle.reference.specs.Steps.{badMatches, ownRefusals, outcome, step}
+use Rattle.reference.specs.Steps.{badLengths, badMatches, ownRefusals, refusals, outcome, step}
 use Rattle.calls.specs.Passed.{Lent}
-use Rattle.memory.proofs.Stops.{stopped, passed, tables-checked, matches-checked, tables-lent, matches-lent}
-
-never : {A : Type 0} {z : Sizes} {why : Refusal} → Refused why ≡ Accepted z → A
-never e = let z : _≡_ {A = ℕ} 0 1 = cc in absurd (omega arith)
+use Rattle.calls.proofs.Shown.{tables-lent, matches-lent}
 
 -- x is what the checks so far gave, and `rest` are the rows that are still to be tested.
-pub record Decides (g : Geometry) (t : Tables) (c : Call (List ℕ)) (x : Checked) (rest : List RefusalRow) : Type 0 where
+pub record Rows (g : Geometry) (t : Tables) (c : Call (List ℕ)) (x : Checked) (rest : List RefusalRow) : Type 0 where
   pub stops : (why : Refusal) → x ≡ Refused why → step g t c ≡ outcome g t c (some (numberOf why))
   pub passes : (z : Sizes) → x ≡ Accepted z → step g t c ≡ outcome g t c (firstRefusal rest)
+
+-- And the lengths are tested: what an acceptance has shown.
+pub record Decides (g : Geometry) (t : Tables) (c : Call (List ℕ)) (x : Checked) (rest : List RefusalRow) : Type 0 where
+  pub rows : Rows g t c x rest
   pub lent : (z : Sizes) → x ≡ Accepted z → Lent g z (length (t .store)) (length (t .indicators))
 
--- rows 1 and 2, of a call with no match word and of all-match
-pub tables-decide : (g : Geometry) (t : Tables) (c : Call (List ℕ)) → badMatches g c ≡ false
-    → Decides g t c (checkedTables g (length (t .store)) (length (t .indicators))) (ownRefusals g t c)
-tables-decide g t c plain = record {
-  stops = λ why e. stopped g t c why (sym (tables-checked g t c plain) ∙ e);
-  passes = λ z e. passed g t c z (sym (tables-checked g t c plain) ∙ e);
-  lent = λ z e. tables-lent g (length (t .store)) (length (t .indicators)) z e;
-}
+-- row 1
+geometry-row : (g : Geometry) (t : Tables) (c : Call (List ℕ)) → Rows g t c (checked g) (2 given-when (badLengths g t || badMatches g c) ∷ ownRefusals g t c)
+unfolding checked firstRefusal step refusals
+geometry-row g t c = go (valid g) refl
+  where
+    rest : List RefusalRow
+    rest = 2 given-when (badLengths g t || badMatches g c) ∷ ownRefusals g t c
 
-pub matches-decide : (g : Geometry) (t : Tables) (key : ℕ) (m : List ℕ)
-    → Decides g t (allMatch key m) (checkedMatches g (length (t .store)) (length (t .indicators)) (length m)) (ownRefusals g t (allMatch key m))
-matches-decide g t key m = record {
-  stops = λ why e. stopped g t (allMatch key m) why (sym (matches-checked g t key m) ∙ e);
-  passes = λ z e. passed g t (allMatch key m) z (sym (matches-checked g t key m) ∙ e);
-  lent = λ z e. matches-lent g (length (t .store)) (length (t .indicators)) (length m) z e .0;
-}
+    go : (v : Bool) → step g t c ≡ outcome g t c (firstRefusal (1 given-when not v ∷ rest)) → Rows g t c (cond v (Accepted (sizesOf g)) (Refused BadGeometry)) rest
+    go true e = record { stops = λ why f. never (sym f); passes = λ z f. e }
+    go false e = record { stops = λ why f. let is : BadGeometry ≡ why = cc in e ∙ rw (← is); passes = λ z f. never f }
 
 -- one row more, whose test the code finds to be b
 module _ {g : Geometry} {t : Tables} {c : Call (List ℕ)} {x : Checked} {rest : List RefusalRow} where
-  row-decides : (why : Refusal) (test : Sizes → Bool) (b : Bool) → ((z : Sizes) → x ≡ Accepted z → test z ≡ b)
-      → Decides g t c x (numberOf why given-when b ∷ rest) → Decides g t c (andRow x why test) rest
+  row-more : (why : Refusal) (test : Sizes → Bool) (b : Bool) → ((z : Sizes) → x ≡ Accepted z → test z ≡ b)
+      → Rows g t c x (numberOf why given-when b ∷ rest) → Rows g t c (andRow x why test) rest
   unfolding andRow firstRefusal
-  row-decides why test b same d = go x refl b same (d .passes)
+  row-more why test b same d = go x refl b same (d .passes)
     where
       go : (y : Checked) → x ≡ y → (b : Bool) → ((z : Sizes) → x ≡ Accepted z → test z ≡ b)
           → ((z : Sizes) → x ≡ Accepted z → step g t c ≡ outcome g t c (firstRefusal (numberOf why given-when b ∷ rest)))
-          → Decides g t c (andRow y why test) rest
-      go (Refused above) e b same p = record { stops = λ w f. d .stops w (e ∙ f); passes = λ z f. never f; lent = λ z f. never f }
+          → Rows g t c (andRow y why test) rest
+      go (Refused above) e b same p = record { stops = λ w f. d .stops w (e ∙ f); passes = λ z f. never f }
       go (Accepted z₀) e true same p =
-          rw (same z₀ e) (record { stops = λ w f. let is : why ≡ w = cc in p z₀ e ∙ rw is; passes = λ z f. never f; lent = λ z f. never f })
-      go (Accepted z₀) e false same p =
-          rw (same z₀ e) (record { stops = λ w f. never (sym f); passes = λ z f. p z (e ∙ f); lent = λ z f. d .lent z (e ∙ f) })
+          rw (same z₀ e) (record { stops = λ w f. let is : why ≡ w = cc in p z₀ e ∙ rw is; passes = λ z f. never f })
+      go (Accepted z₀) e false same p = rw (same z₀ e) (record { stops = λ w f. never (sym f); passes = λ z f. p z (e ∙ f) })
+
+  row-decides : (why : Refusal) (test : Sizes → Bool) (b : Bool) → ((z : Sizes) → x ≡ Accepted z → test z ≡ b)
+      → Decides g t c x (numberOf why given-when b ∷ rest) → Decides g t c (andRow x why test) rest
+  row-decides why test b same d = record {
+    rows = row-more why test b same (d .rows);
+    lent = λ z e. d .lent z (row-accepted x why test z e .0);
+  }
 
   pub address-decides : (a : ℕ) → Decides g t c x (3 given-when badAddress g a ∷ rest) → Decides g t c (andAddress x g a) rest
   unfolding badAddress
@@ -73,15 +77,37 @@ module _ {g : Geometry} {t : Tables} {c : Call (List ℕ)} {x : Checked} {rest :
   unfolding badPattern
   pattern-decides p d = row-decides BadPattern (λ z. leb (z .patterns) p) (badPattern g p) (λ z e. rw (d .lent z e .sized .same-patterns)) d
 
--- what an accepted row tells
-pub row-accepted : (x : Checked) (why : Refusal) (test : Sizes → Bool) (z : Sizes) → andRow x why test ≡ Accepted z → (x ≡ Accepted z) × (test z ≡ false)
+-- row 2, of a call with no match word
+pub tables-decide : (g : Geometry) (t : Tables) (c : Call (List ℕ)) → badMatches g c ≡ false
+    → Decides g t c (checkedTables g (length (t .store)) (length (t .indicators))) (ownRefusals g t c)
+unfolding checkedTables badLengths
+tables-decide g t c plain =
+    let test = not (tablesFit g (length (t .store)) (length (t .indicators))) in
+    record {
+      rows = row-more BadLengths (λ z. test) (badLengths g t || badMatches g c) (λ z e. rw plain (sym (or-false test))) (geometry-row g t c);
+      lent = λ z e. tables-lent g (length (t .store)) (length (t .indicators)) z e;
+    }
+
+-- and of all-match, where the code tests it in two parts
+row-twice : (x : Checked) (why : Refusal) (p q : Sizes → Bool) → andRow (andRow x why p) why q ≡ andRow x why (λ z. p z || q z)
 unfolding andRow
-row-accepted (Refused above) why test z e = never e
-row-accepted (Accepted z₀) why test z e = go (test z₀) refl e
+row-twice (Refused above) why p q = refl
+row-twice (Accepted z) why p q = go (p z)
   where
-    go : (b : Bool) → test z₀ ≡ b → cond b (Refused why) (Accepted z₀) ≡ Accepted z → (Accepted z₀ ≡ Accepted z) × (test z ≡ false)
-    go true q f = never f
-    go false q f = let is : z₀ ≡ z = cc in (f, rw (← is) q)
+    go : (b : Bool) → andRow (cond b (Refused why) (Accepted z)) why q ≡ cond (b || q z) (Refused why) (Accepted z)
+    go true = refl
+    go false = refl
+
+pub matches-decide : (g : Geometry) (t : Tables) (key : ℕ) (m : List ℕ)
+    → Decides g t (allMatch key m) (checkedMatches g (length (t .store)) (length (t .indicators)) (length m)) (ownRefusals g t (allMatch key m))
+unfolding checkedMatches checkedTables badLengths badMatches
+matches-decide g t key m = record {
+  rows =
+      rw row-twice
+      (row-more BadLengths (λ z. not (tablesFit g (length (t .store)) (length (t .indicators))) || not (eqb (length m) (matchWords g)))
+      (badLengths g t || badMatches g (allMatch key m)) (λ z e. refl) (geometry-row g t (allMatch key m)));
+  lent = λ z e. matches-lent g (length (t .store)) (length (t .indicators)) (length m) z e .0;
+}
 
 pub address-inside : (x : Checked) (g : Geometry) (a : ℕ) (z : Sizes) → andAddress x g a ≡ Accepted z → a < g .depth
 address-inside x g a z e = leb-false (g .depth) a (row-accepted x BadAddress (λ z. leb (g .depth) a) z e .1)

@@ -1,4 +1,3 @@
-pub mod Stops
 pub mod Decided
 pub mod Outcomes
 pub mod Performing

@@ -33,7 +33,7 @@ use Rattle.memory.proofs.Decided.{Decides}
 pub refused-left : {g : Geometry} {s i : List ℕ} {c : Call (List ℕ)} {x : Checked} {rest : List RefusalRow} {why : Refusal}
     → Decides g (tables s i) c x rest → x ≡ check.Refused why → left (Refused why) s i (lent c) ≡ step g (tables s i) c
 unfolding outcome
-refused-left d e = sym (d .stops _ e)
+refused-left d e = sym (d .rows .stops _ e)
 
 -- Clear: tables filled to their lengths.
 pub cleared-left : (g : Geometry) (t : Tables) (z : Sizes) (n m : ℕ) → Lent g z n m

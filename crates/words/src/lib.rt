@@ -23,7 +23,7 @@ pub fn clear_bit(words: &mut [u64], at: usize, bit: u32)
     words[at] = without_bit(words[at], bit);
 }
 
-// A word with bit `bit` cleared. What is asked is shown as for `set_bit`.
+// A word with bit `bit` cleared. The walk over the set bits of a word shows what is asked: the bit is the word's lowest.
 pub fn without_bit(word: u64, bit: u32) -> u64
     requires { ⌜ bit < 64 ⌝ }
     ensures { λ r. ⌜ r ≡ clearBit word bit ⌝ }

@@ -25,6 +25,16 @@ pub const OF_HISTORIES: Required = Required {
     subjects: subjects::OF_HISTORIES,
 };
 
+/// Of a single call that is given an address and no pattern.
+const AT_AN_ADDRESS: &[&str] = &[
+    "refusal 1",
+    "refusal 2",
+    "refusal 3",
+    "refusal 5",
+    "empty",
+    "pattern",
+];
+
 pub const OF_SINGLE_CALLS: Required = Required {
     answers: &[
         ("clear", &["refusal 1", "refusal 2", "cleared"]),
@@ -40,28 +50,8 @@ pub const OF_SINGLE_CALLS: Required = Required {
                 "pattern",
             ],
         ),
-        (
-            "erase",
-            &[
-                "refusal 1",
-                "refusal 2",
-                "refusal 3",
-                "refusal 5",
-                "empty",
-                "pattern",
-            ],
-        ),
-        (
-            "read",
-            &[
-                "refusal 1",
-                "refusal 2",
-                "refusal 3",
-                "refusal 5",
-                "empty",
-                "pattern",
-            ],
-        ),
+        ("erase", AT_AN_ADDRESS),
+        ("read", AT_AN_ADDRESS),
         (
             "first-match",
             &[

@@ -14,8 +14,9 @@ use Rattle.reference.specs.Steps.{ownRefusals}
 use Rattle.calls.specs.Answers.{tables}
 use Rattle.calls.specs.Passed.{Lent}
 use Rattle.collect.proofs.Marking.{length-marked}
-use Rattle.memory.proofs.Stops.{matches-lent}
-use Rattle.memory.proofs.Decided.{Decides, matches-decide, pattern-decides, row-accepted}
+use Rattle.calls.proofs.Shown.{matches-lent}
+use Rattle.geometry.proofs.Acceptance.{row-accepted}
+use Rattle.memory.proofs.Decided.{Decides, matches-decide, pattern-decides}
 use Rattle.memory.proofs.Outcomes.{refused-left, false-left, matched-left}
 use Rattle.memory.proofs.all_match.Statement.{statement}
 use Rattle.memory.proofs.all_match.Tie as tie
@@ -36,7 +37,7 @@ lent-at k =
 returns : tie.Need-returns
 returns c =
     let k = c .before .before .before in
-    false-left _ _ _ _ _ (sym (c .before .any-is-false .ensures) ∙ c .if1 .taken) ∙ sym (decided (k .before .before) .passes _ (k .checked .given .1))
+    false-left _ _ _ _ _ (sym (c .before .any-is-false .ensures) ∙ c .if1 .taken) ∙ sym (decided (k .before .before) .rows .passes _ (k .checked .given .1))
 
 -- the match word of zeros has its length
 zeroed : (z : tie.After-zero-all) → length (z .zero-all .last .0) ≡ matchWords (z .before .before .before .before .before .before .before .before .before .before .before .before .args .g)
@@ -60,7 +61,7 @@ returns-2 c =
     let k = e .before .before .before in
     matched-left _ _ _ _ _ _ _ _ (sym (e .before .any-is-false .ensures) ∙ e .if1 .left) (t .take-all .ensures) (z .zero-all .ensures) (lent-at k .1)
     (c .total-ones .ensures)
-    ∙ sym (decided (k .before .before) .passes _ (k .checked .given .1))
+    ∙ sym (decided (k .before .before) .rows .passes _ (k .checked .given .1))
 
 returns-3 : tie.Need-returns-3
 unfolding lent

@@ -25,7 +25,7 @@ returns c =
     let told = emptied .before .before in
     let d = decided (told .before .before) in
     ap₂ (λ s i. left Cleared s i []) (emptied .empty-all .ensures) (zeroed .zero-all .ensures)
-    ∙ cleared-left _ _ _ _ _ (d .lent _ (told .enum-told .given .1)) ∙ sym (d .passes _ (told .enum-told .given .1))
+    ∙ cleared-left _ _ _ _ _ (d .lent _ (told .enum-told .given .1)) ∙ sym (d .rows .passes _ (told .enum-told .given .1))
 
 returns-2 : tie.Need-returns-2
 unfolding lent

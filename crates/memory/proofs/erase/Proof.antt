@@ -28,7 +28,7 @@ unfolding lent accepted
 returns c =
     let r = c .before .before .before .before in
     let k = r .before .before .before .before in
-    r .replace .ensures ∙ replacing-left _ _ _ _ (erase _) refl refl ∙ sym (decided (k .before .before) .passes _ (k .checked .given .1))
+    r .replace .ensures ∙ replacing-left _ _ _ _ (erase _) refl refl ∙ sym (decided (k .before .before) .rows .passes _ (k .checked .given .1))
 
 returns-2 : tie.Need-returns-2
 unfolding lent

@@ -26,7 +26,7 @@ returns c =
     let k = c .before .before in
     let p = k .before .before in
     let x = p .before .before .before .before .args in
-    first-left (x .g) (x .store .now) (x .indicators .now) (x .key) (c .first .result) (c .first .ensures) ∙ sym (decided p .passes _ (k .checked .given .1))
+    first-left (x .g) (x .store .now) (x .indicators .now) (x .key) (c .first .result) (c .first .ensures) ∙ sym (decided p .rows .passes _ (k .checked .given .1))
 
 returns-2 : tie.Need-returns-2
 unfolding lent

@@ -18,7 +18,8 @@ use Rattle.reference.specs.Line.{line}
 use Rattle.reference.proofs.Line.{true-line, line-refused}
 use Rattle.calls.specs.Passed.{Sized}
 use Rattle.memory.specs.Lines.{HandsBack}
-use Rattle.memory.proofs.Stops.{checked-sized, checked-invalid}
+use Rattle.calls.proofs.Shown.{checked-sized}
+use Rattle.geometry.proofs.Acceptance.{checked-refused}
 use Rattle.memory.proofs.line.Statement.{statement}
 use Rattle.memory.proofs.line.Tie as tie
 
@@ -85,7 +86,7 @@ returns-2 c =
 returns-3 : tie.Need-returns-3
 returns-3 c =
     let k = c .before in
-    let bad = checked-invalid _ _ (sym (k .before .before .check .ensures) ∙ k .enum-told .given .1) in
+    let bad = checked-refused _ _ (sym (k .before .before .check .ensures) ∙ k .enum-told .given .1) in
     empty-part (line-refused _ _ _ (rw bad)) refl
 
 pub line-spec : {M : Type 1} → statement M

@@ -47,13 +47,13 @@ returns c =
     let x = k .before .before .before .before .before .before .args in
     held-left (x .g) (x .store .now) (x .indicators .now) _ (c .entry-of .result) (bad s ∙ ap not (c .before .if1 .taken))
     (c .entry-of .ensures ∙ entry-held (d .lent _ (k .checked .given .1) .sized) (x .store .now) (x .indicators .now) _ _ (n .number .ensures) (inside n))
-    ∙ sym (d .passes _ (k .checked .given .1))
+    ∙ sym (d .rows .passes _ (k .checked .given .1))
 
 returns-2 : tie.Need-returns-2
 returns-2 c =
     let s = c .before in
     let k = s .before .before .before .before in
-    bad-left _ _ _ _ (bad s ∙ ap not (c .if1 .left)) ∙ sym (decided (k .before .before) .passes _ (k .checked .given .1))
+    bad-left _ _ _ _ (bad s ∙ ap not (c .if1 .left)) ∙ sym (decided (k .before .before) .rows .passes _ (k .checked .given .1))
 
 returns-3 : tie.Need-returns-3
 unfolding lent

@@ -6,7 +6,8 @@ use Rattle.reference.specs.Calls.{write, lent}
 use Rattle.reference.specs.Refusals.{_given-when_}
 use Rattle.reference.specs.Steps.{badMatches, badEntry, ownRefusals, accepted}
 use Rattle.calls.specs.Answers.{tables}
-use Rattle.memory.proofs.Decided.{Decides, tables-decide, address-decides, pattern-decides, row-accepted, address-inside}
+use Rattle.geometry.proofs.Acceptance.{row-accepted}
+use Rattle.memory.proofs.Decided.{Decides, tables-decide, address-decides, pattern-decides, address-inside}
 use Rattle.memory.proofs.Outcomes.{refused-left, replacing-left}
 use Rattle.memory.proofs.write.Statement.{statement}
 use Rattle.memory.proofs.write.Tie as tie
@@ -31,7 +32,7 @@ unfolding lent accepted
 returns c =
     let r = c .before .before .before .before in
     let k = r .before .before .before .before in
-    r .replace .ensures ∙ replacing-left _ _ _ _ (write _ _) refl refl ∙ sym (decided (k .before .before) .passes _ (k .checked .given .1))
+    r .replace .ensures ∙ replacing-left _ _ _ _ (write _ _) refl refl ∙ sym (decided (k .before .before) .rows .passes _ (k .checked .given .1))
 
 returns-2 : tie.Need-returns-2
 unfolding lent

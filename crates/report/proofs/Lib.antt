@@ -1,0 +1,3 @@
+pub mod Appending
+pub mod Measures
+pub mod Places

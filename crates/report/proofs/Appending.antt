@@ -1,4 +1,4 @@
--- Bytes written after bytes: two runs of them are one, and room for both is room for each.
+-- Bytes written after bytes: two runs of them are one, and room for both is room for the second after the first.
 use Prim.Native.Nat.{ℕ, _+_, _≤_}
 use mathlib.Core.Path.{_≡_, sym, ap, ap₂, _∙_}
 use mathlib.Core.List.{[], _++_, append-assoc, append-nil}
@@ -56,6 +56,3 @@ module _ {o p : Bytes} {a b : ℕ} {xs : Bytes} (first : Appended o p a b xs) wh
   -- room for both is room for what comes after the first
   pub room-after : (ys : Bytes) → a + length (xs ++ ys) ≤ length o → b + length ys ≤ length p
   room-after ys h = omega (arith, h, first .ends, same-length, length-append xs ys)
-
-pub room-first : (n a : ℕ) (xs ys : Bytes) → a + length (xs ++ ys) ≤ n → a + length xs ≤ n
-room-first n a xs ys h = omega (arith, h, length-append xs ys)

@@ -18,6 +18,10 @@ impl Array {
         }
     }
 
+    pub fn geometry(&self) -> Geometry {
+        self.geometry
+    }
+
     pub fn entries(&self) -> &[Option<u32>] {
         &self.entries
     }

@@ -1,16 +1,18 @@
 //! What the random trials met. A run that never met one of its subjects has tested nothing of it,
 //! and fails.
 
-use crate::call::{Answer, Call};
+use crate::call::Answer;
+use crate::command_subjects;
 use crate::geometry::{Geometry, SEGMENTED};
+use crate::job_subjects;
 use crate::subjects::{self, Subject};
 use std::collections::BTreeMap;
 
 /// What must be met: the answers of each call, in every kind where they can occur, and the
-/// subjects.
+/// subjects. A job is answered as a call is.
 pub struct Required {
     answers: &'static [(&'static str, &'static [&'static str])],
-    subjects: &'static [Subject],
+    subjects: &'static [&'static [Subject]],
 }
 
 pub const OF_HISTORIES: Required = Required {
@@ -22,7 +24,7 @@ pub const OF_HISTORIES: Required = Required {
         ("first-match", &["refusal 4", "none", "at"]),
         ("all-match", &["refusal 2", "refusal 4", "no hits", "hits"]),
     ],
-    subjects: subjects::OF_HISTORIES,
+    subjects: &[subjects::OF_HISTORIES],
 };
 
 /// Of a single call that is given an address and no pattern.
@@ -75,7 +77,30 @@ pub const OF_SINGLE_CALLS: Required = Required {
             ],
         ),
     ],
-    subjects: subjects::OF_SINGLE_CALLS,
+    subjects: &[subjects::BROKEN_RULES, subjects::OF_SINGLE_CALLS],
+};
+
+/// Of a command that uses an address and no pattern, in a job.
+const AT_AN_ADDRESS_OF_A_JOB: &[&str] = &["refusal 8", "refusal 3", "empty", "pattern"];
+
+/// 5, 6 and, as the program lends a match word that fits, 2 cannot occur.
+pub const OF_JOBS: Required = Required {
+    answers: &[
+        ("job", job_subjects::OF_EACH_KIND),
+        ("clear", &["refusal 8", "cleared"]),
+        ("write", &["refusal 3", "refusal 4", "empty", "pattern"]),
+        ("erase", AT_AN_ADDRESS_OF_A_JOB),
+        ("read", AT_AN_ADDRESS_OF_A_JOB),
+        ("first-match", &["refusal 8", "refusal 4", "none", "at"]),
+        ("all-match", &["refusal 8", "refusal 4", "no hits", "hits"]),
+        ("another operation", &["refusal 8"]),
+    ],
+    subjects: &[
+        job_subjects::OF_FILES,
+        subjects::BROKEN_RULES,
+        &job_subjects::HIGH_BYTES,
+        command_subjects::OF_COMMANDS,
+    ],
 };
 
 /// How often each answer of each call came in each kind, and how often each subject was met.
@@ -86,9 +111,17 @@ pub struct Tally {
 }
 
 impl Tally {
-    pub fn count(&mut self, g: &Geometry, call: &Call, answer: &Answer, met: Vec<Subject>) {
-        let key = (g.kind, call.name(), label(answer));
-        *self.answers.entry(key).or_default() += 1;
+    /// An answer to a call of this name, and what that call met.
+    pub fn count(&mut self, g: &Geometry, call: &'static str, answer: &Answer, met: Vec<Subject>) {
+        self.meet_in(g.kind, call, label(answer));
+        self.meet(met);
+    }
+
+    pub fn meet_in(&mut self, kind: u32, call: &'static str, answer: &'static str) {
+        *self.answers.entry((kind, call, answer)).or_default() += 1;
+    }
+
+    pub fn meet(&mut self, met: Vec<Subject>) {
         for subject in met {
             *self.subjects.entry(subject).or_default() += 1;
         }
@@ -115,7 +148,7 @@ impl Tally {
                 .collect();
             println!("    {call}, {}", counts.join(", "));
         }
-        for subject in required.subjects {
+        for subject in required.subjects.concat() {
             println!("    {subject}: {}", self.met(subject));
         }
     }
@@ -133,7 +166,7 @@ impl Tally {
                 }
             }
         }
-        let subjects = required.subjects.iter();
+        let subjects = required.subjects.concat().into_iter();
         missing.extend(
             subjects
                 .filter(|subject| self.met(subject) == 0)
@@ -151,6 +184,7 @@ fn label(answer: &Answer) -> &'static str {
         Answer::Refused(4) => "refusal 4",
         Answer::Refused(5) => "refusal 5",
         Answer::Refused(6) => "refusal 6",
+        Answer::Refused(8) => "refusal 8",
         Answer::Refused(_) => unreachable!("no other number is ever right"),
         Answer::Cleared => "cleared",
         Answer::Entry(None) => "empty",

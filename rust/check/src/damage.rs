@@ -2,11 +2,11 @@
 //! bad geometries.
 
 use crate::call::{Call, EMPTY};
-use crate::geometry::{Geometry, SEGMENTED};
+use crate::geometry::Geometry;
 use crate::histories::random_call;
 use crate::image;
 use crate::random::Random;
-use crate::shapes::{random_geometry, Pool};
+use crate::shapes::{break_rule, random_geometry, Pool};
 use crate::steps::Tables;
 use crate::trial::Trial;
 
@@ -109,34 +109,13 @@ fn other_length(random: &mut Random, right: usize) -> usize {
     random.pick(&[0, shorter, right / 2, right + 1, right + 1, 2 * right])
 }
 
-/// Breaks a rule: a number gets one too high, 0, or as high as it can be. Half of the time the
-/// tables get the lengths that the bad geometry would ask for, so that nothing but the rule stands
-/// against the call.
+/// Half of the time the tables get the lengths that the bad geometry would ask for, so that nothing
+/// but the rule stands against the call.
 fn bad_geometry(random: &mut Random, trial: &mut Trial) {
-    let g = &mut trial.geometry;
-    let widest = if g.kind == 1 { 27 } else { 12 };
-    match random.below(4) {
-        0 => g.kind = random.pick(&[3, 4, u32::MAX]),
-        1 => g.depth = random.pick(&[0, 4097, 4097, u32::MAX]),
-        2 => g.pattern_width = random.pick(&[0, widest + 1, widest + 1, 32, u32::MAX]),
-        _ => bad_set_width(random, g),
-    }
-    if g.depth == 4097 && g.kind == SEGMENTED {
-        g.set_width = random.pick(&[1, 17]);
-    }
+    break_rule(random, &mut trial.geometry);
     if random.one_in(2) {
         fit_lengths(trial);
     }
-}
-
-fn bad_set_width(random: &mut Random, g: &mut Geometry) {
-    if g.kind == SEGMENTED && random.one_in(3) {
-        g.set_width = 65;
-        g.depth = 65 * random.between(1, 4);
-        return;
-    }
-    let too_wide = g.depth.saturating_add(1);
-    g.set_width = random.pick(&[0, 2, 3, g.set_width + 1, too_wide, u32::MAX]);
 }
 
 /// The lengths that these numbers would ask for, if there are such.

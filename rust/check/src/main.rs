@@ -1,21 +1,28 @@
-//! The checking program. It holds the library's six calls to document 01, which is written out here
-//! a second time: `array` is its plain array, `image` its tables, `steps` its steps on any tables.
-//! It runs the cases of the paper, examples from other papers, random histories from an accepted
-//! clear, and random single calls on damaged tables.
+//! The checking program. It holds the library's six calls and the program `camrun` to document 01,
+//! which is written out here a second time: `array` is its plain array, `image` its tables, `steps`
+//! its steps on any tables, `job` its job files and `report` what is printed for them. It runs the
+//! cases of the paper, examples from other papers, random histories from an accepted clear, random
+//! single calls on damaged tables, and random jobs.
 
 mod array;
 mod call;
+mod camrun;
 mod cases;
+mod command_subjects;
 mod coverage;
 mod damage;
 mod geometry;
 mod histories;
 mod image;
+mod job;
+mod job_subjects;
+mod jobs;
 mod memory;
 mod options;
 mod parts;
 mod random;
 mod reduce;
+mod report;
 mod script;
 mod shapes;
 mod steps;
@@ -24,7 +31,7 @@ mod trial;
 mod vectors;
 
 use options::{Options, HELP};
-use parts::{Counts, HISTORIES, SINGLE_CALLS};
+use parts::{Counts, HISTORIES, JOBS, SINGLE_CALLS};
 use std::process::ExitCode;
 
 fn main() -> ExitCode {
@@ -39,6 +46,12 @@ fn main() -> ExitCode {
         println!("{HELP}");
         return ExitCode::SUCCESS;
     }
+    if options.only_job.is_some() || !options.only_one() {
+        if let Err(what) = camrun::is_there(&options.camrun) {
+            eprintln!("{what}");
+            return ExitCode::from(2);
+        }
+    }
     let counts = run(&options);
     println!("{counts}");
     match counts.failed {
@@ -49,12 +62,15 @@ fn main() -> ExitCode {
 
 fn run(options: &Options) -> Counts {
     let mut counts = Counts::default();
-    if options.only_history.is_some() || options.only_call.is_some() {
+    if options.only_one() {
         if let Some(index) = options.only_history {
             counts.add(HISTORIES.run_one(options, index));
         }
         if let Some(index) = options.only_call {
             counts.add(SINGLE_CALLS.run_one(options, index));
+        }
+        if let Some(index) = options.only_job {
+            counts.add(JOBS.run_one(options, index));
         }
         return counts;
     }
@@ -70,5 +86,7 @@ fn run(options: &Options) -> Counts {
     ));
     counts.add(HISTORIES.run_all(options, options.histories));
     counts.add(SINGLE_CALLS.run_all(options, options.calls));
+    counts.add(parts::run_listing(options));
+    counts.add(JOBS.run_all(options, options.jobs));
     counts
 }

@@ -1,13 +1,17 @@
 //! The parts of a run, and what each prints.
 
+use crate::camrun;
 use crate::coverage::{self, Required, Tally};
 use crate::damage::random_single_call;
 use crate::histories::random_history;
+use crate::job::Job;
+use crate::jobs::random_job;
 use crate::options::Options;
 use crate::random::Random;
-use crate::reduce::reduce;
+use crate::reduce::{reduce, Fails};
 use crate::script::Script;
 use crate::trial::Trial;
+use std::cell::RefCell;
 use std::fmt;
 use std::time::{Duration, Instant};
 
@@ -64,41 +68,72 @@ pub fn run_scripts(options: &Options, name: &str, scripts: Vec<Script>) -> Count
     counts
 }
 
+pub fn run_listing(options: &Options) -> Counts {
+    let mut counts = Counts::default();
+    let outcome = camrun::judge_listing(options);
+    counts.count(outcome.is_ok());
+    if let Err(what) = outcome {
+        println!("FAILED, camrun's listing\n    {what}");
+    }
+    println!("camrun's listing in document 01: {counts}");
+    counts
+}
+
 /// A part made of random trials.
-pub struct RandomPart {
+pub struct RandomPart<T> {
     name: &'static str,
     /// The option that runs one trial alone.
     option: &'static str,
     /// Keeps the generators of two parts apart.
     number: u64,
-    make: fn(&mut Random) -> Trial,
+    make: fn(&mut Random) -> T,
     /// What is a trial of this part, however it was made or cut down.
-    admits: fn(&Trial) -> bool,
-    judge: fn(&Trial, &mut Tally) -> Result<(), String>,
+    admits: fn(&T) -> bool,
+    judge: fn(&T, &Options, &mut Tally) -> Result<(), String>,
+    cut: fn(T, Fails<T>) -> T,
+    /// What is printed of the trial of this seed and number, which failed.
+    text: fn(&T, u64, u64) -> String,
     required: Required,
 }
 
-pub const HISTORIES: RandomPart = RandomPart {
+pub const HISTORIES: RandomPart<Trial> = RandomPart {
     name: "random histories",
     option: "--only-history",
     number: 1,
     make: random_history,
     admits: Trial::is_history,
-    judge: Trial::judge_history,
+    judge: |trial, _, tally| trial.judge_history(tally),
+    cut: reduce,
+    text: |trial, _, _| trial.to_string(),
     required: coverage::OF_HISTORIES,
 };
 
-pub const SINGLE_CALLS: RandomPart = RandomPart {
+pub const SINGLE_CALLS: RandomPart<Trial> = RandomPart {
     name: "random single calls",
     option: "--only-call",
     number: 2,
     make: random_single_call,
     admits: Trial::is_single_call,
-    judge: Trial::judge_single_call,
+    judge: |trial, _, tally| trial.judge_single_call(tally),
+    cut: reduce,
+    text: |trial, _, _| trial.to_string(),
     required: coverage::OF_SINGLE_CALLS,
 };
 
-impl RandomPart {
+/// Any file is a job.
+pub const JOBS: RandomPart<Job> = RandomPart {
+    name: "random jobs",
+    option: "--only-job",
+    number: 3,
+    make: random_job,
+    admits: |_| true,
+    judge: camrun::judge,
+    cut: camrun::cut,
+    text: camrun::keep,
+    required: coverage::OF_JOBS,
+};
+
+impl<T> RandomPart<T> {
     pub fn run_all(&self, options: &Options, trials: u64) -> Counts {
         let mut counts = Counts::default();
         let mut tally = Tally::default();
@@ -129,26 +164,33 @@ impl RandomPart {
         if options.trace {
             println!("{} {index}", self.option);
         }
-        let passed = (self.judge)(&trial, tally).is_ok();
-        if !passed && shown {
-            self.show(options.seed, index, trial);
+        let outcome = (self.judge)(&trial, options, tally);
+        let passed = outcome.is_ok();
+        if let (Err(what), true) = (outcome, shown) {
+            self.show(options, index, trial, what);
         }
         passed
     }
 
-    /// Prints the shortest trial that the failing one can be cut down to in a bounded time.
-    fn show(&self, seed: u64, index: u64, trial: Trial) {
-        let outcome = |trial: &Trial| (self.judge)(trial, &mut Tally::default());
+    /// Prints the shortest trial that the failing one can be cut down to in a bounded time, and
+    /// what came of it. It is not run once more for that: a program may fail now and then.
+    fn show(&self, options: &Options, index: u64, trial: T, what: String) {
+        let what = RefCell::new(what);
         let end = Instant::now() + LONGEST_CUTTING;
-        let fails =
-            |trial: &Trial| Instant::now() < end && (self.admits)(trial) && outcome(trial).is_err();
-        let cut = reduce(trial, &fails);
-        let what = outcome(&cut).expect_err("it was cut down to one that fails");
+        let fails = |trial: &T| {
+            if Instant::now() >= end || !(self.admits)(trial) {
+                return false;
+            }
+            let outcome = (self.judge)(trial, options, &mut Tally::default());
+            outcome.map_err(|new| what.replace(new)).is_err()
+        };
+        let cut = (self.cut)(trial, &fails);
+        let seed = options.seed;
         println!(
             "FAILED, {} (--seed {seed} {} {index})",
             self.name, self.option
         );
-        println!("    {cut}");
-        println!("    {what}");
+        println!("    {}", (self.text)(&cut, seed, index));
+        println!("    {}", what.borrow());
     }
 }

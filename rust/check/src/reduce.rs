@@ -4,9 +4,10 @@ use crate::call::{Call, EMPTY};
 use crate::geometry::Geometry;
 use crate::trial::Trial;
 use std::collections::BTreeSet;
+use std::ops::Range;
 
 /// Whether a trial is one of its part and still fails.
-type Fails<'a> = &'a dyn Fn(&Trial) -> bool;
+pub type Fails<'a, T = Trial> = &'a dyn Fn(&T) -> bool;
 
 /// A change that makes a trial smaller in some way.
 type Edit = Box<dyn Fn(&mut Trial)>;
@@ -33,7 +34,7 @@ pub fn reduce(mut trial: Trial, fails: Fails) -> Trial {
 }
 
 /// Makes the edit if the trial still fails with it.
-fn try_edit(trial: &mut Trial, fails: Fails, edit: impl Fn(&mut Trial)) -> bool {
+fn try_edit<T: Clone>(trial: &mut T, fails: Fails<T>, edit: impl Fn(&mut T)) -> bool {
     let mut candidate = trial.clone();
     edit(&mut candidate);
     let taken = fails(&candidate);
@@ -53,17 +54,25 @@ fn edit_while_any(trial: &mut Trial, fails: Fails, edits: fn(&Trial) -> Vec<Edit
     changed
 }
 
-/// Removes runs of calls, long runs first.
 fn remove_calls(trial: &mut Trial, fails: Fails) -> bool {
+    let remove = |trial: &mut Trial, run| drop(trial.calls.drain(run));
+    remove_runs(trial, fails, |trial| trial.calls.len(), remove)
+}
+
+/// Removes runs of what a trial is a sequence of, long runs first.
+pub fn remove_runs<T: Clone>(
+    trial: &mut T,
+    fails: Fails<T>,
+    length: fn(&T) -> usize,
+    remove: fn(&mut T, Range<usize>),
+) -> bool {
     let mut changed = false;
-    let mut run = trial.calls.len();
+    let mut run = length(trial);
     while run > 0 {
-        let mut end = trial.calls.len();
+        let mut end = length(trial);
         while end > 0 {
             let start = end.saturating_sub(run);
-            changed |= try_edit(trial, fails, |trial| {
-                trial.calls.drain(start..end);
-            });
+            changed |= try_edit(trial, fails, |trial| remove(trial, start..end));
             end = start;
         }
         run /= 2;

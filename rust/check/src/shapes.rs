@@ -66,6 +66,30 @@ fn segmented(random: &mut Random) -> Geometry {
     geometry(SEGMENTED, sets * set_width, narrow(random), set_width)
 }
 
+/// Breaks a rule: a number gets one too high, 0, or as high as it can be.
+pub fn break_rule(random: &mut Random, g: &mut Geometry) {
+    let widest = if g.kind == CASCADED { 27 } else { 12 };
+    match random.below(4) {
+        0 => g.kind = random.pick(&[3, 4, u32::MAX]),
+        1 => g.depth = random.pick(&[0, 4097, 4097, u32::MAX]),
+        2 => g.pattern_width = random.pick(&[0, widest + 1, widest + 1, 32, u32::MAX]),
+        _ => bad_set_width(random, g),
+    }
+    if g.depth == 4097 && g.kind == SEGMENTED {
+        g.set_width = random.pick(&[1, 17]);
+    }
+}
+
+fn bad_set_width(random: &mut Random, g: &mut Geometry) {
+    if g.kind == SEGMENTED && random.one_in(3) {
+        g.set_width = 65;
+        g.depth = 65 * random.between(1, 4);
+        return;
+    }
+    let (wider, too_wide) = (g.set_width.wrapping_add(1), g.depth.saturating_add(1));
+    g.set_width = random.pick(&[0, 2, 3, wider, too_wide, u32::MAX]);
+}
+
 /// Few addresses and few patterns, so that calls meet one another.
 pub struct Pool {
     pub addresses: Vec<u32>,

@@ -15,10 +15,10 @@ const STAGE_KEPT: Subject = "a pattern overwritten by another that shares a stag
 const ZERO_WRITTEN: Subject = "pattern 0 written";
 const ZERO_MISSED: Subject = "pattern 0 sought where no entry is 0 and some are empty";
 const STAGES_MIXED: Subject = "a key whose stages are all stored, but not in one entry";
-const CLEARED_LATER: Subject = "a clear of a memory that holds something";
-const LATER_WORD: Subject = "a first match after the first word of its row";
-const LATER_PLACE: Subject = "a first match after the first place of its set";
-const WORDS_OF_HITS: Subject = "hits in more than one match word";
+pub const CLEARED_LATER: Subject = "a clear of a memory that holds something";
+pub const LATER_WORD: Subject = "a first match after the first word of its row";
+pub const LATER_PLACE: Subject = "a first match after the first place of its set";
+pub const WORDS_OF_HITS: Subject = "hits in more than one match word";
 
 pub const OF_HISTORIES: &[Subject] = &[
     LARGEST,
@@ -44,11 +44,23 @@ const PATTERN_WIDTH_OVER: Subject = "a pattern width over 12, in kind 1 over 27"
 const SET_WIDTH_0: Subject = "set width 0";
 const SET_WIDTH_OVER: Subject = "a set width over 64, in kinds 0 and 1 over 1";
 const SET_WIDTH_UNEVEN: Subject = "a set width that does not divide the depth";
+
+pub const BROKEN_RULES: &[Subject] = &[
+    NO_SUCH_KIND,
+    DEPTH_0,
+    DEPTH_OVER,
+    PATTERN_WIDTH_0,
+    PATTERN_WIDTH_OVER,
+    SET_WIDTH_0,
+    SET_WIDTH_OVER,
+    SET_WIDTH_UNEVEN,
+];
+
 const STORE_LENGTH: Subject = "a store of wrong length, the other lengths right";
 const INDICATORS_LENGTH: Subject = "indicators of wrong length, the other lengths right";
 const MATCH_LENGTH: Subject = "a match word of wrong length, all else in range";
 const MATCH_LENGTH_AND_KEY: Subject = "a match word of wrong length and a key out of range";
-const ADDRESS_AND_PATTERN: Subject = "address and pattern both out of range";
+pub const ADDRESS_AND_PATTERN: Subject = "address and pattern both out of range";
 const PATTERN_AND_ENTRY: Subject = "a pattern out of range for an entry that is no pattern";
 const PADDING_SOUGHT: Subject = "padding bits in the row of a key";
 const PADDING_WRITTEN: Subject = "padding bits in the row of a written pattern";
@@ -58,14 +70,6 @@ const BIT_MISSING: Subject = "an entry replaced whose bit is 0";
 const BIT_TOO_MANY: Subject = "a pattern written whose bit is 1 though the set lacks it";
 
 pub const OF_SINGLE_CALLS: &[Subject] = &[
-    NO_SUCH_KIND,
-    DEPTH_0,
-    DEPTH_OVER,
-    PATTERN_WIDTH_0,
-    PATTERN_WIDTH_OVER,
-    SET_WIDTH_0,
-    SET_WIDTH_OVER,
-    SET_WIDTH_UNEVEN,
     STORE_LENGTH,
     INDICATORS_LENGTH,
     MATCH_LENGTH,
@@ -180,7 +184,7 @@ pub fn of_step(g: &Geometry, tables: &Tables, call: &Call, answer: &Answer) -> V
 }
 
 /// One fault is a subject; of several at once, a test of one alone could hide behind another.
-fn alone(faults: Vec<Subject>) -> Vec<Subject> {
+pub fn alone(faults: Vec<Subject>) -> Vec<Subject> {
     if faults.len() == 1 {
         faults
     } else {
@@ -197,9 +201,9 @@ fn limits(g: &Geometry) -> (u32, u32) {
     }
 }
 
-fn broken_rules(g: &Geometry) -> Vec<Subject> {
+pub fn broken_rules(g: &Geometry) -> Vec<Subject> {
     let (widest_pattern, widest_set) = limits(g);
-    let rules = [
+    those(&[
         (g.kind > 2, NO_SUCH_KIND),
         (g.depth == 0, DEPTH_0),
         (g.depth > 4096, DEPTH_OVER),
@@ -208,9 +212,18 @@ fn broken_rules(g: &Geometry) -> Vec<Subject> {
         (g.set_width == 0, SET_WIDTH_0),
         (g.set_width > widest_set, SET_WIDTH_OVER),
         (uneven(g), SET_WIDTH_UNEVEN),
-    ];
-    let broken = rules.iter().filter(|(broken, _)| *broken);
-    broken.map(|&(_, rule)| rule).collect()
+    ])
+}
+
+/// What a reader of one, two or three bytes sees.
+pub fn low_bytes(field: u32) -> [u32; 3] {
+    [field & 0xff, field & 0xffff, field & 0xff_ffff]
+}
+
+/// The subjects that are marked as met.
+pub fn those(subjects: &[(bool, Subject)]) -> Vec<Subject> {
+    let met = subjects.iter().filter(|(is_met, _)| *is_met);
+    met.map(|&(_, subject)| subject).collect()
 }
 
 /// In kinds 0 and 1 a set width other than 1 breaks their own rule.

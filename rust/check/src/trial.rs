@@ -46,7 +46,7 @@ impl Trial {
             let before = array.entries().to_vec();
             let right = array.call(call);
             let met = subjects::of_history(&self.geometry, &before, call, &right);
-            tally.count(&self.geometry, call, &right, met);
+            tally.count(&self.geometry, call.name(), &right, met);
             answers.push(right);
         }
         let mut memory = self.lend();
@@ -68,7 +68,7 @@ impl Trial {
         let mut tables = self.before.clone();
         let right = steps::step(&self.geometry, &mut tables, call);
         let met = subjects::of_step(&self.geometry, &self.before, call, &right);
-        tally.count(&self.geometry, call, &right, met);
+        tally.count(&self.geometry, call.name(), &right, met);
         let mut memory = self.lend();
         compare_answer(call, &memory.make(call)?, &right)?;
         memory

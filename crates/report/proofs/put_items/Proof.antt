@@ -1,4 +1,4 @@
--- `report::put_items` meets its contract: arm by arm, the answer being the arm's constructor, the items compute to the bytes that are put.
+-- `report::put_items` meets its contract: arm by arm, the answer being the arm's constructor, its items compute to the bytes that are put.
 use native.Mathlib.Omega.{arith}
 use lib.ListN.{length-append}
 use borrow.Author.Needs.{needs}
@@ -8,6 +8,7 @@ use Rattle.report.proofs.Appending.{same-length, appended-more}
 use Rattle.report.proofs.put_items.Statement.{statement}
 use Rattle.report.proofs.put_items.Tie as tie
 
+-- a refusal
 put-last-requires : tie.Need-put-last-requires
 unfolding ascii ended answerItems
 put-last-requires c κs =
@@ -21,6 +22,7 @@ returns c =
     let number = put .before in
     rw (number .before .before .before .before .answer .given .1, ← number .number .ensures) (put .put-last .ensures)
 
+-- a clear
 put-bytes-requires : tie.Need-put-bytes-requires
 unfolding ascii ended answerItems
 put-bytes-requires c κs = let told = c .before .before in rw (told .enum-told .given .1) at (told .before .before .before .before .pre)
@@ -29,12 +31,14 @@ returns-2 : tie.Need-returns-2
 unfolding ascii ended answerItems
 returns-2 c = let put = c .before .before in rw (put .before .before .before .enum-told .given .1) (put .put-bytes .ensures)
 
+-- an entry
 put-entry-requires : tie.Need-put-entry-requires
 put-entry-requires c κs = let told = c .before .before in rw (told .answer2 .given .1) at (told .before .before .before .before .pre)
 
 returns-3 : tie.Need-returns-3
 returns-3 c = let put = c .before .before in rw (put .before .before .before .answer2 .given .1) (put .put-entry .ensures)
 
+-- the address of a first match
 put-named-requires : tie.Need-put-named-requires
 unfolding ascii ended answerItems
 put-named-requires c κs =
@@ -48,8 +52,7 @@ put-named-requires-2 c κs =
     let number = address .before in
     let told = number .before .before .before .before in
     let put = rw (number .number2 .ensures) at (address .put-named .ensures) in
-    omega
-    (arith, simp length-append at (rw (told .answer3 .given .1) at (told .before .before .before .before .pre)), same-length put)
+    omega (arith, simp length-append at (rw (told .answer3 .given .1) at (told .before .before .before .before .pre)), same-length put)
 
 put-last-requires-2 : tie.Need-put-last-requires-2
 unfolding ascii ended answerItems
@@ -77,6 +80,7 @@ returns-4 c =
     rw (number .before .before .before .before .answer3 .given .1)
     (appended-more (rw (number .number2 .ensures) at (address .put-named .ensures)) (appended-more (words .put-named2 .ensures) (entries .put-last2 .ensures)))
 
+-- no match
 put-named-requires-3 : tie.Need-put-named-requires-3
 unfolding ascii ended answerItems
 put-named-requires-3 c κs =
@@ -98,6 +102,7 @@ returns-5 c =
     let words = entries .before .before .before .before .before in
     rw (words .before .before .before .before .answer4 .given .1) (appended-more (words .put-named3 .ensures) (entries .put-bytes2 .ensures))
 
+-- a match word
 put-named-requires-4 : tie.Need-put-named-requires-4
 unfolding ascii ended answerItems
 put-named-requires-4 c κs =

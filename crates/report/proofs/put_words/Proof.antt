@@ -12,6 +12,7 @@ use Rattle.report.specs.Figures.{Bytes, ascii, hexadecimal}
 use Rattle.report.specs.Lines.{ended}
 use Rattle.report.specs.Appended.{Appended}
 use Rattle.report.proofs.Appending.{appended-none, same-length, appended-more, room-after}
+use Rattle.report.proofs.Measures.{hexadecimal-long}
 use Rattle.report.proofs.put_words.Statement.{statement}
 use Rattle.report.proofs.put_words.Tie as tie
 
@@ -27,16 +28,13 @@ left-none : (words : List ℕ) (j : ℕ) → length words ≤ j → left words j
 unfolding ended ascii
 left-none words j h = ap (λ (ws : List ℕ). ended (map hexadecimal ws)) (drop-of-length-le words h)
 
-sixteen : (word : ℕ) → length (hexadecimal word) ≡ 16
-unfolding hexadecimal
-sixteen word = refl
-
--- a space and the digits of a word are left
+-- a space and the digits of a word are left, at least
 left-long : (words : List ℕ) (j : ℕ) → j < length words → 17 ≤ length (left words j)
 left-long words j h =
     let word = hexadecimal (getD words j 0) in
-    rw (left-item words j h) (omega (arith, sixteen (getD words j 0), length-append word (left words (suc j))))
+    rw (left-item words j h) (omega (arith, hexadecimal-long (getD words j 0), length-append word (left words (suc j))))
 
+-- what is printed before word j
 record Printed (before : Bytes) (at : ℕ) (words : List ℕ) (out : Bytes) (end j : ℕ) : Type 0 where
   done : Bytes
   appended : Appended before out at end done
@@ -59,9 +57,10 @@ loop-holds c = let start = c .before .before in record {
 room : (c : tie.At-loop Inv-loop μ-loop) → c .loop .end + length (left (c .before .before .before .args .words .now) (c .loop .j)) ≤ length (c .loop .out)
 room c =
     let start = c .before .before .before in
-    let p = c .loop .inv in
-    room-after (p .appended) (left (start .args .words .now) (c .loop .j)) (rw (p .whole) (start .pre))
+    let l = c .loop in
+    room-after (l .inv .appended) (left (start .args .words .now) (l .j)) (rw (l .inv .whole) (start .pre))
 
+-- and so for a space and a word
 room-turn : (c : tie.In-loop Inv-loop μ-loop) → c .before .loop .end + 17 ≤ length (c .before .loop .out)
 room-turn c = let h = c .before in omega (arith, room h, left-long (h .before .before .before .args .words .now) (h .loop .j) (c .loop-test .taken))
 
@@ -72,7 +71,7 @@ put-hexadecimal-requires : tie.Need-put-hexadecimal-requires Inv-loop μ-loop
 put-hexadecimal-requires c κs =
     let space = c .before .before .before .before in
     let s = space .put-bytes .ensures in
-    rw sixteen (omega (arith, room-turn (space .before .before .before), s .ends, same-length s))
+    rw hexadecimal-long (omega (arith, room-turn (space .before .before .before), s .ends, same-length s))
 
 loop-again : tie.Need-loop-again Inv-loop μ-loop
 loop-again c =
@@ -81,15 +80,15 @@ loop-again c =
     let turn = space .before .before .before in
     let l = turn .before .loop in
     let words = turn .before .before .before .before .args .words .now in
-    let d = hexadecimal (getD words (l .j) 0) in
+    let digits = hexadecimal (getD words (l .j) 0) in
     let rest = left words (suc (l .j)) in
     record {
-      done = l .inv .done ++ (32 ∷ []) ++ d;
+      done = _;
       appended = appended-more (appended-more (l .inv .appended) (space .put-bytes .ensures)) (word .put-hexadecimal .ensures);
       whole =
           rw (add-one (l .j))
-          (append-assoc (l .inv .done ++ (32 ∷ [])) d rest
-          ∙ append-assoc (l .inv .done) (32 ∷ []) (d ++ rest)
+          (append-assoc (l .inv .done ++ (32 ∷ [])) digits rest
+          ∙ append-assoc (l .inv .done) (32 ∷ []) (digits ++ rest)
           ∙ ap (λ (r : Bytes). l .inv .done ++ r) (sym (left-item words (l .j) (turn .loop-test .taken)))
           ∙ l .inv .whole);
     }

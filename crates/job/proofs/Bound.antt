@@ -1,0 +1,163 @@
+-- No output has more than 391,215 bytes: a first line of 34, and 1,363 lines of 287. A file that is run has no more commands,
+-- each leaves the array sound, and the figures of a sound array's answers are small.
+use Prim.Native.Nat.{ℕ, zero, suc, _+_, _*_, _^_, _<_, _≤_}
+use mathlib.Core.Path.{_≡_, refl, sym, ap, _∙_}
+use mathlib.Core.Logic.{_↔_}
+use mathlib.Core.Bool.{Bool, true, false, cond, _&&_, _||_, and-eq-true-iff, and-false, true≢false, false≢true}
+use mathlib.Core.List.{List, [], _∷_}
+use mathlib.Core.Option.{Option, none, some}
+use native.Mathlib.Nat.{zero-add, lt-of-not-le, div-le-self}
+use native.Mathlib.Omega.{arith}
+use lib.Dec.{ltb, eqb}
+use lib.ListN.{length, length-append}
+use borrow.Author.Tests.{ltb-true, ltb-false, ne-eqb, not-false}
+use Rattle.words.proofs.Rules.{count-most, length-tabulate}
+use Rattle.geometry.specs.declared.Geometry.{Geometry}
+use Rattle.geometry.specs.Valid.{transposed, cascaded, segmented, between, valid}
+use Rattle.geometry.specs.Sizes.{matchWords, offsetOf}
+use Rattle.geometry.proofs.Facts.{Facts, facts, patterns-most}
+use Rattle.geometry.proofs.Bounds.{words-few}
+use Rattle.geometry.proofs.Places.{offset-lt, matches-least}
+use Rattle.reference.specs.Calls.{Call, clear, write, erase, read, firstMatch, allMatch, held}
+use Rattle.reference.specs.Refusals.{RefusalRow, _given-when_, firstRefusal}
+use Rattle.reference.specs.Array.{Array, emptied, entryAt, Sound, lowest, counted, matchesOf, arrayRefusals, arrayAccepted, arrayOutcome, arrayStep}
+use Rattle.reference.proofs.Refused.{passes}
+use Rattle.reference.proofs.Lowest.{holding, LowestIs, at-first, at-none, lowest-is, hits-are}
+use Rattle.reference.proofs.Emptied.{emptied-sound}
+use Rattle.report.specs.Figures.{Bytes}
+use Rattle.report.specs.Lines.{answerLine, firstLine}
+use Rattle.report.proofs.Measures.{Small, answer-line-most, stop-line-most, first-line-most}
+use Rattle.job.specs.declared.Command.{Command}
+use Rattle.job.specs.Files.{headerOf, geometryOf, commandsFrom, commandsOf, commandsOutside, badFile, tooLarge, geometryStops, fileStops, fileStop}
+use Rattle.job.specs.Decoding.{decoded}
+use Rattle.job.specs.Output.{obeyed, arrayCommand, answers, numbered, report, printed, output}
+use Rattle.job.proofs.Unstopped.{Unstopped, unstopped}
+use Rattle.job.proofs.Obeying.{command-sound}
+
+-- ---- numbers that stop
+
+-- whether each row gives a number of one figure
+abbrev oneFigure : List RefusalRow → Bool
+oneFigure [] = true
+oneFigure ((n given-when test) ∷ rows) = ltb n 10 && oneFigure rows
+
+refusal-small : (rows : List RefusalRow) → oneFigure rows ≡ true → (n : ℕ) → firstRefusal rows ≡ some n → n < 10
+unfolding firstRefusal
+refusal-small [] few n e = absurd (let z : _≡_ {A = ℕ} 0 1 = cc in omega arith)
+refusal-small ((m given-when true) ∷ rows) few n e = let same : m ≡ n = cc in let here = simp and-eq-true-iff at few in omega (arith, ltb-true)
+refusal-small ((m given-when false) ∷ rows) few n e = refusal-small rows ((simp and-eq-true-iff at few) .1) n e
+
+-- ---- answers
+
+module _ (g : Geometry) (ok : valid g ≡ true) (shallow : g .depth ≤ 1024) (es : Array) (sound : Sound g es) where
+  abbrev f : Facts g
+  f = facts g ok
+
+  held-small : (a : ℕ) → Small (held (entryAt es a))
+  held-small a p e = omega (arith, sound .fits a p e, patterns-most g f)
+
+  counted-small : (key : ℕ) → Small (counted g (lowest key 0 es))
+  unfolding counted
+  counted-small key = go (lowest-is key 0 es)
+    where
+      compared : (a : ℕ) (b : Bool) → cond b (offsetOf g a + 1) 0 < 10 ^ 4
+      compared a true = omega (arith, offset-lt g f a, f .set-most)
+      compared a false = omega arith
+
+      go : LowestIs key 0 es (lowest key 0 es) → Small (counted g (lowest key 0 es))
+      go (at-first i found first) =
+          let inside : i < 1024 = omega (arith, first .within, sound .long) in
+          rw (found, zero-add i) (omega arith, omega (arith, div-le-self i (64 * g .«set_width»)), compared i (eqb (g .kind) segmented))
+      go (at-none missing nowhere) = rw missing (omega (arith, words-few g f), omega arith)
+
+  accepted-small : (c : Call ℕ) → Small (arrayAccepted g es c .answer)
+  unfolding arrayAccepted matchesOf
+  accepted-small clear = tt
+  accepted-small (write a p) = held-small a
+  accepted-small (erase a) = held-small a
+  accepted-small (read a) = held-small a
+  accepted-small (firstMatch key) = counted-small key
+  accepted-small (allMatch key len) = (
+    simp length-tabulate (omega (arith, matches-least g f)),
+    omega (arith, hits-are key es, count-most (length es) (holding es key), sound .long),
+  )
+
+  refusals-small : (c : Call ℕ) → oneFigure (arrayRefusals g c) ≡ true
+  unfolding arrayRefusals
+  refusals-small clear = refl
+  refusals-small (write a p) = refl
+  refusals-small (erase a) = refl
+  refusals-small (read a) = refl
+  refusals-small (firstMatch key) = refl
+  refusals-small (allMatch key len) = refl
+
+  command-small : (c : Command) → Small (arrayCommand g es c .answer)
+  unfolding arrayCommand obeyed arrayStep arrayOutcome
+  command-small c = go (decoded (matchWords g) c)
+    where
+      given : (call : Call ℕ) (r : Option ℕ) → firstRefusal (arrayRefusals g call) ≡ r → Small (arrayOutcome g es call r .answer)
+      given call none e = accepted-small call
+      given call (some n) e = refusal-small (arrayRefusals g call) (refusals-small call) n e
+
+      go : (d : Option (Call ℕ)) → Small (obeyed g es d .answer)
+      go none = omega arith
+      go (some call) = given call (firstRefusal (arrayRefusals g call)) refl
+
+-- ---- lines
+
+-- kinds are 0, 1 and 2
+kind-most : (g : Geometry) → valid g ≡ true → g .kind < 3
+unfolding valid
+kind-most g ok = lt-of-not-le (λ l. false≢true (sym (invalid l) ∙ ok))
+  where
+    invalid : 3 ≤ g .kind → valid g ≡ false
+    invalid l =
+        rw (ne-eqb (g .kind) transposed (λ e. omega arith), ne-eqb (g .kind) cascaded (λ e. omega arith), ne-eqb (g .kind) segmented (λ e. omega arith))
+        (and-false (between 1 4096 (g .depth)))
+
+module _ (g : Geometry) (ok : valid g ≡ true) (shallow : g .depth ≤ 1024) where
+  first-most : length (firstLine g) ≤ 34
+  first-most =
+      let f = facts g ok in
+      first-line-most g (omega (arith, kind-most g ok)) (omega arith) (omega (arith, f .width-most)) (omega (arith, f .set-most))
+
+  numbered-most : (k : ℕ) (es : Array) → Sound g es → (cs : List Command) → k + length cs ≤ 10 ^ 4 → length (numbered k (answers g es cs)) ≤ 287 * length cs
+  unfolding numbered answers
+  numbered-most k es sound [] h = omega arith
+  numbered-most k es sound (c ∷ cs) h =
+      let x = arrayCommand g es c in
+      omega (
+        arith,
+        length-append (answerLine k (x .answer)) (numbered (k + 1) (answers g (x .array) cs)),
+        answer-line-most k (x .answer) (omega arith) (command-small g ok shallow es sound c),
+        numbered-most (k + 1) (x .array) (command-sound g ok es sound c) cs (omega arith),
+      )
+
+-- ---- files
+
+commands-long : (file : Bytes) (n i : ℕ) → length (commandsFrom file n i) ≡ n
+unfolding commandsFrom
+commands-long file zero i = refl
+commands-long file (suc n) i = ap suc (commands-long file n (i + 12))
+
+report-most : (file : Bytes) → Unstopped file → length (report file) ≤ 391215
+unfolding report
+report-most file u =
+    let g = geometryOf file in
+    let long : length (commandsOf file) ≡ headerOf file .commands = commands-long file (headerOf file .commands) (headerOf file .offset) in
+    let few : length (commandsOf file) ≤ 1363 = omega (arith, long, u .short, u .after-header, u .inside) in
+    omega (
+      arith,
+      few,
+      length-append (firstLine g) (numbered 0 (answers g (emptied g) (commandsOf file))),
+      first-most g (u .is-valid) (u .shallow),
+      numbered-most g (u .is-valid) (u .shallow) 0 (emptied g) (emptied-sound g) (commandsOf file) (omega arith),
+    )
+
+pub output-short : (file : Bytes) → length (output file) ≤ 391215
+unfolding output printed fileStops geometryStops
+output-short file = go (fileStop file) refl
+  where
+    go : (r : Option ℕ) → fileStop file ≡ r → length (printed file r) ≤ 391215
+    go none e = report-most file (unstopped file e)
+    go (some n) e = omega (arith, stop-line-most n (refusal-small (fileStops file) refl n e))

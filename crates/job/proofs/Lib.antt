@@ -1,0 +1,7 @@
+pub mod Reading
+pub mod Unstopped
+pub mod Obeying
+pub mod Running
+pub mod Bound
+pub mod Lending
+pub mod Examples

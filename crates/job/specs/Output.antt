@@ -1,0 +1,43 @@
+-- What a job prints, by the plain array alone.
+use Prim.Native.Nat.{ℕ, _+_}
+use mathlib.Core.List.{List, [], _∷_, _++_}
+use mathlib.Core.Option.{Option, none, some}
+use Rattle.geometry.specs.declared.Geometry.{Geometry}
+use Rattle.geometry.specs.Sizes.{matchWords}
+use Rattle.reference.specs.Calls.{Call, Answer, refused}
+use Rattle.reference.specs.Array.{Array, emptied, ArrayOutcome, arrayStep}
+use Rattle.report.specs.Figures.{Bytes}
+use Rattle.report.specs.Lines.{firstLine, answerLine, stopLine}
+use Rattle.job.specs.declared.Command.{Command}
+use Rattle.job.specs.Files.{geometryOf, commandsOf, fileStop}
+use Rattle.job.specs.Decoding.{decoded}
+
+-- "A command with another operation or a stray field stops with 8, tested before 3 and 4, and the run goes on."
+unfoldable pub obeyed : Geometry → Array → Option (Call ℕ) → ArrayOutcome
+obeyed g es none = record { answer = refused 8; array = es }
+obeyed g es (some call) = arrayStep g es call
+
+-- All-match is lent a match word of the right length.
+unfoldable pub arrayCommand : Geometry → Array → Command → ArrayOutcome
+arrayCommand g es c = obeyed g es (decoded (matchWords g) c)
+
+unfoldable pub answers : Geometry → Array → List Command → List Answer
+answers g es [] = []
+answers g es (c ∷ cs) = arrayCommand g es c .answer ∷ answers g (arrayCommand g es c .array) cs
+
+-- "Each other line starts with the command's number, counted from 0": the lines from number k on.
+unfoldable pub numbered : (k : ℕ) → List Answer → Bytes
+numbered k [] = []
+numbered k (x ∷ xs) = answerLine k x ++ numbered (k + 1) xs
+
+-- "reads one job on standard input, clears, and runs it"
+unfoldable pub report : Bytes → Bytes
+report file = firstLine (geometryOf file) ++ numbered 0 (answers (geometryOf file) (emptied (geometryOf file)) (commandsOf file))
+
+-- What stands for a job that some number stops, or none.
+unfoldable pub printed : Bytes → Option ℕ → Bytes
+printed file none = report file
+printed file (some n) = stopLine n
+
+unfoldable pub output : Bytes → Bytes
+output file = printed file (fileStop file)

@@ -1,0 +1,271 @@
+// Job files: the reader, and the run of a job that prints its report into a lent buffer.
+use calls::Call;
+use geometry::Checked;
+use geometry::Geometry;
+use geometry::Sizes;
+use geometry::address::Address;
+ghost use Prim.Native.Nat.{_+_, _≤_};
+ghost use mathlib.Core.Path.{_≡_};
+ghost use mathlib.Core.Option.{some};
+ghost use lib.ListN.{length};
+ghost use Rattle.io.specs.Counts.{Counts};
+ghost use Rattle.calls.specs.Answers.{callFor, tables};
+ghost use Rattle.report.specs.Lines.{answerLine};
+ghost use Rattle.job.specs.Files.{field, headerOf, commandAt, commandsOutside, geometryStops, fileStops};
+ghost use Rattle.job.specs.Decoding.{unused, decoded};
+ghost use Rattle.job.specs.Commands.{commanded, Obeys};
+ghost use Rattle.job.specs.Left.{Ready, Runs, Ample, lent, Ran};
+ghost use Rattle.job.specs.Read.{Opens, Decodes, stopNumber};
+
+// The six fields of a header.
+pub struct Header {
+    pub geometry: Geometry,
+    // How many commands there are.
+    pub commands: u32,
+    // Where the first begins, in bytes from the start of the file.
+    pub offset: u32,
+}
+
+// The three fields of a command.
+pub struct Command {
+    pub operation: u32,
+    pub address: u32,
+    pub pattern: u32,
+}
+
+// Why a whole file is stopped.
+pub enum Stop {
+    BadFile,
+    BadGeometry,
+    TooLarge,
+}
+
+// A file that passed its checks, or its stop.
+pub enum Opened {
+    Job(Header, Sizes),
+    Stopped(Stop),
+}
+
+// The call that a command asks for. A command with another operation or a stray field asks for none.
+pub enum Decoded {
+    Asks(Call),
+    Nothing,
+}
+
+impl Stop {
+    // The number that document 01 gives it.
+    fn number(self) -> u32
+        ensures { λ r. ⌜ r ≡ stopNumber self ⌝ }
+    {
+        match self {
+            Stop::BadFile => 7,
+            Stop::BadGeometry => 1,
+            Stop::TooLarge => 9,
+        }
+    }
+}
+
+// The field at a place of the file.
+fn field(file: &[u8], at: usize) -> u32
+    requires { ⌜ at + 4 ≤ length (now file) ⌝ }
+    ensures { λ r. ⌜ r ≡ field (now (file .entry)) at ⌝ }
+{
+    let first = file[at] as u32;
+    let second = file[at + 1] as u32;
+    let third = file[at + 2] as u32;
+    let fourth = file[at + 3] as u32;
+    first + 256 * (second + 256 * (third + 256 * fourth))
+}
+
+fn header_of(file: &[u8]) -> Header
+    requires { ⌜ 24 ≤ length (now file) ⌝ }
+    ensures { λ r. ⌜ r ≡ headerOf (now (file .entry)) ⌝ }
+{
+    Header {
+        geometry: Geometry {
+            kind: field(file, 0),
+            depth: field(file, 4),
+            pattern_width: field(file, 8),
+            set_width: field(file, 12),
+        },
+        commands: field(file, 16),
+        offset: field(file, 20),
+    }
+}
+
+fn command_at(file: &[u8], at: usize) -> Command
+    requires { ⌜ at + 12 ≤ length (now file) ⌝ }
+    ensures { λ r. ⌜ r ≡ commandAt (now (file .entry)) at ⌝ }
+{
+    Command {
+        operation: field(file, at),
+        address: field(file, at + 4),
+        pattern: field(file, at + 8),
+    }
+}
+
+// Whether some command would lie in the header or past the end of a file of this length. The sum is taken in 64 bits, in
+// which it cannot wrap.
+fn is_outside(header: Header, length: usize) -> bool
+    ensures { λ r. ⌜ r ≡ commandsOutside header length ⌝ }
+{
+    header.offset < 24 || (length as u64) < header.offset as u64 + 12 * header.commands as u64
+}
+
+// The stops of the geometry in a header.
+fn size(header: Header) -> Opened
+    ensures { λ r. ⌜ Opens (geometryStops (header .geometry)) header r ⌝ }
+{
+    let checked = header.geometry.check();
+    match checked {
+        Checked::Refused(why) => Opened::Stopped(Stop::BadGeometry),
+        Checked::Accepted(sizes) => {
+            if 1024 < header.geometry.depth || 4096 < sizes.indicator_words {
+                Opened::Stopped(Stop::TooLarge)
+            } else {
+                Opened::Job(header, sizes)
+            }
+        }
+    }
+}
+
+fn open(file: &[u8]) -> Opened
+    ensures { λ r. ⌜ Opens (fileStops (now (file .entry))) (headerOf (now (file .entry))) r ⌝ }
+{
+    if file.len() < 24 || 16384 < file.len() {
+        return Opened::Stopped(Stop::BadFile);
+    }
+    let header = header_of(file);
+    if is_outside(header, file.len()) {
+        Opened::Stopped(Stop::BadFile)
+    } else {
+        size(header)
+    }
+}
+
+// A call whose command has a field that it does not use.
+fn unless_stray(call: Call, field: u32) -> Decoded
+    ensures { λ r. ⌜ Decodes r (λ m. unused field (some (callFor call m))) ⌝ }
+{
+    if field == 0 {
+        Decoded::Asks(call)
+    } else {
+        Decoded::Nothing
+    }
+}
+
+fn decode(command: Command) -> Decoded
+    ensures { λ r. ⌜ Decodes r (λ m. decoded m command) ⌝ }
+{
+    let address = Address::new(command.address);
+    let operation = command.operation;
+    match operation {
+        1 => Decoded::Asks(Call::Write(address, command.pattern)),
+        2 => unless_stray(Call::Erase(address), command.pattern),
+        3 => unless_stray(Call::FirstMatch(command.pattern), command.address),
+        4 => unless_stray(Call::AllMatch(command.pattern), command.address),
+        5 => unless_stray(Call::Read(address), command.pattern),
+        6 => {
+            if command.address == 0 {
+                unless_stray(Call::Clear, command.pattern)
+            } else {
+                Decoded::Nothing
+            }
+        }
+        _ => Decoded::Nothing,
+    }
+}
+
+// Runs a command and prints its line. `run_job` shows that there is room for it.
+fn run_command(
+    command: Command,
+    number: u32,
+    g: Geometry,
+    store: &mut [u32],
+    indicators: &mut [u64],
+    matches: &mut [u64],
+    out: &mut [u8],
+    at: usize,
+) -> usize
+    requires { ⌜ at + length (answerLine number (commanded g (tables (now store) (now indicators)) (now matches) command .answer)) ≤ length (now out) ⌝ }
+    ensures { λ r. ⌜ Obeys (commanded g (tables (now (store .entry)) (now (indicators .entry))) (now (matches .entry)) command) number (tables (now (store .exit)) (now (indicators .exit))) (now (matches .exit)) (now (out .entry)) (now (out .exit)) at r ⌝ }
+{
+    let decoded = decode(command);
+    match decoded {
+        Decoded::Asks(call) => {
+            let answer = memory::perform(call, g, store, indicators, matches);
+            report::put_answer(out, at, number, answer, matches)
+        }
+        Decoded::Nothing => report::put_refusal(out, at, number, 8),
+    }
+}
+
+// Runs a job that nothing stops, on tables and a match word of its own lengths. `run` shows what is asked.
+fn run_job(
+    file: &[u8],
+    header: Header,
+    store: &mut [u32],
+    indicators: &mut [u64],
+    matches: &mut [u64],
+    out: &mut [u8],
+) -> usize
+    requires { ⌜ Ready (now file) header (length (now store)) (length (now indicators)) (length (now matches)) (length (now out)) ⌝ }
+    ensures { λ r. ⌜ Runs (now (file .entry)) (tables (now (store .exit)) (now (indicators .exit))) (now (matches .entry)) (now (matches .exit)) (now (out .entry)) (now (out .exit)) r ⌝ }
+{
+    let g = header.geometry;
+    memory::clear(g, store, indicators);
+    let mut at = report::put_geometry(out, 0, g);
+    let mut from = header.offset as usize;
+    let mut k = 0;
+    while k < header.commands {
+        let command = command_at(file, from);
+        at = run_command(command, k, g, store, indicators, matches, out, at);
+        from += 12;
+        k += 1;
+    }
+    at
+}
+
+// Runs the job in `file` on slices that are large enough for any: those of `run`.
+fn run_within(
+    file: &[u8],
+    store: &mut [u32],
+    indicators: &mut [u64],
+    matches: &mut [u64],
+    out: &mut [u8],
+) -> usize
+    requires { ⌜ Ample (length (now store)) (length (now indicators)) (length (now matches)) (length (now out)) ⌝ }
+    ensures { λ r. ⌜ Ran (now (file .entry)) (lent (now (store .entry)) (now (indicators .entry)) (now (matches .entry))) (lent (now (store .exit)) (now (indicators .exit)) (now (matches .exit))) (now (out .entry)) (now (out .exit)) r ⌝ }
+{
+    let opened = open(file);
+    match opened {
+        Opened::Stopped(stop) => report::put_stop(out, 0, stop.number()),
+        Opened::Job(header, sizes) => {
+            let depth = header.geometry.depth as usize;
+            let words = sizes.indicator_words;
+            let match_words = sizes.match_words;
+            run_job(
+                file,
+                header,
+                &mut store[..depth],
+                &mut indicators[..words],
+                &mut matches[..match_words],
+                out,
+            )
+        }
+    }
+}
+
+// Runs the job in `file`, prints its report into `out` and gives the number of bytes.
+pub fn run(
+    file: &[u8],
+    store: &mut [u32; 1024],
+    indicators: &mut [u64; 4096],
+    matches: &mut [u64; 16],
+    out: &mut [u8; 391215],
+) -> usize
+    ensures { λ r. ⌜ Counts r (now (out .exit)) ⌝ }
+    ensures { λ r. ⌜ Ran (now (file .entry)) (lent (now (store .entry)) (now (indicators .entry)) (now (matches .entry))) (lent (now (store .exit)) (now (indicators .exit)) (now (matches .exit))) (now (out .entry)) (now (out .exit)) r ⌝ }
+{
+    run_within(file, store, indicators, matches, out)
+}

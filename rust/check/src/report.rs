@@ -1,0 +1,78 @@
+//! Document 01's report: what `camrun` prints for a job.
+
+use crate::array::Array;
+use crate::call::Answer;
+use crate::command_subjects;
+use crate::coverage::Tally;
+use crate::job::{Command, Job};
+use crate::job_subjects;
+use crate::subjects;
+use std::fmt::Write;
+
+/// The report, every line with its newline. What the job meets is counted on the way.
+pub fn report(job: &Job, tally: &mut Tally) -> String {
+    job_subjects::of_file(job, tally);
+    let g = match job.accepted() {
+        Ok(header) => header.geometry,
+        Err(number) => return format!("job no {number}\n"),
+    };
+    let mut text = format!(
+        "kind {} depth {} width {} set {}\n",
+        g.kind, g.depth, g.pattern_width, g.set_width
+    );
+    // "`camrun` reads one job on standard input, clears, and runs it."
+    let mut array = Array::empty(g);
+    for (number, command) in job.commands().iter().enumerate() {
+        let answer = answer(&mut array, number, command, tally);
+        text += &format!("{number} {}\n", items(&answer));
+    }
+    text
+}
+
+/// "A command with another operation or a stray field stops with 8, tested before 3 and 4, and the
+/// run goes on."
+fn answer(array: &mut Array, number: usize, command: &Command, tally: &mut Tally) -> Answer {
+    let g = array.geometry();
+    let Some(call) = command.call(&g) else {
+        let answer = Answer::Refused(8);
+        tally.count(
+            &g,
+            command.name(),
+            &answer,
+            command_subjects::of_8(&g, command),
+        );
+        return answer;
+    };
+    let before = array.entries().to_vec();
+    let answer = array.call(&call);
+    let mut met = subjects::of_history(&g, &before, &call, &answer);
+    met.extend(command_subjects::of_call(&g, number, &call, &answer));
+    tally.count(&g, call.name(), &answer, met);
+    answer
+}
+
+/// What follows the command's number.
+fn items(answer: &Answer) -> String {
+    match answer {
+        Answer::Refused(number) => format!("no {number}"),
+        Answer::Cleared => "clear".to_string(),
+        Answer::Entry(None) => "was -".to_string(),
+        Answer::Entry(Some(pattern)) => format!("was {pattern}"),
+        Answer::At {
+            address,
+            words_read: w,
+            entries_compared: c,
+        } => format!("at {address} w {w} c {c}"),
+        Answer::NoMatch {
+            words_read: w,
+            entries_compared: c,
+        } => format!("none w {w} c {c}"),
+        Answer::Matches { matches, hits } => {
+            let mut text = format!("hits {hits}");
+            for word in matches {
+                write!(text, " {word:016x}").expect("a string takes any text");
+            }
+            text
+        }
+    }
+}

@@ -2,12 +2,12 @@
 use Prim.Native.Nat.{ℕ, _+_, _*_, _%_, _<_, _≤_}
 use mathlib.Core.Path.{_≡_, refl, sym, _∙_}
 use mathlib.Core.Logic.{_⊎_, inl, inr}
-use mathlib.Core.Bool.{Bool, true, false, cond, _&&_, and-eq-true-iff, true≢false, false≢true}
-use native.Mathlib.Nat.{div-add-mod, mod-one, lt-of-le-of-lt}
+use mathlib.Core.Bool.{Bool, true, false, cond, _&&_, and-eq-true-iff, and-false, true≢false, false≢true}
+use native.Mathlib.Nat.{div-add-mod, mod-one, lt-of-le-of-lt, lt-of-not-le}
 use native.Mathlib.Omega.{arith}
 use lib.Dec.{eqb, leb, lit<, lit≤}
 use lib.Pow.{pow-mono}
-use borrow.Author.Tests.{leb-true, eqb-true}
+use borrow.Author.Tests.{leb-true, eqb-true, ne-eqb}
 use Rattle.geometry.specs.declared.Geometry.{Geometry}
 use Rattle.geometry.specs.Valid.{between, segmentedRule, valid, kindRule, transposed, cascaded, segmented}
 use Rattle.geometry.specs.Sizes.{roundedUp, patterns, sets}
@@ -89,3 +89,13 @@ facts g h =
 pub patterns-most : (g : Geometry) → Facts g → patterns g < 4294967295
 unfolding patterns
 patterns-most g f = lt-of-le-of-lt (pow-mono (f .width-most)) (lit< tt)
+
+-- kinds are 0, 1 and 2
+pub kind-most : (g : Geometry) → valid g ≡ true → g .kind ≤ 2
+unfolding valid
+kind-most g ok = omega (arith, lt-of-not-le (λ l. false≢true (sym (invalid l) ∙ ok)))
+  where
+    invalid : 3 ≤ g .kind → valid g ≡ false
+    invalid l =
+        rw (ne-eqb (g .kind) transposed (λ e. omega arith), ne-eqb (g .kind) cascaded (λ e. omega arith), ne-eqb (g .kind) segmented (λ e. omega arith))
+        (and-false (between 1 4096 (g .depth)))

@@ -1,34 +1,32 @@
 -- No output has more than 391,215 bytes: a first line of 34, and 1,363 lines of 287. A file that is run has no more commands,
 -- each leaves the array sound, and the figures of a sound array's answers are small.
 use Prim.Native.Nat.{ℕ, zero, suc, _+_, _*_, _^_, _<_, _≤_}
-use mathlib.Core.Path.{_≡_, refl, sym, ap, _∙_}
-use mathlib.Core.Logic.{_↔_}
-use mathlib.Core.Bool.{Bool, true, false, cond, _&&_, _||_, and-eq-true-iff, and-false, true≢false, false≢true}
+use mathlib.Core.Path.{_≡_, refl, ap}
+use mathlib.Core.Bool.{Bool, true, false, cond, _&&_, and-eq-true-iff}
 use mathlib.Core.List.{List, [], _∷_}
 use mathlib.Core.Option.{Option, none, some}
-use native.Mathlib.Nat.{zero-add, lt-of-not-le, div-le-self}
+use native.Mathlib.Nat.{zero-add, div-le-self}
 use native.Mathlib.Omega.{arith}
 use lib.Dec.{ltb, eqb}
 use lib.ListN.{length, length-append}
-use borrow.Author.Tests.{ltb-true, ltb-false, ne-eqb, not-false}
+use borrow.Author.Tests.{ltb-true}
 use Rattle.words.proofs.Rules.{count-most, length-tabulate}
 use Rattle.geometry.specs.declared.Geometry.{Geometry}
-use Rattle.geometry.specs.Valid.{transposed, cascaded, segmented, between, valid}
+use Rattle.geometry.specs.Valid.{segmented, valid}
 use Rattle.geometry.specs.Sizes.{matchWords, offsetOf}
-use Rattle.geometry.proofs.Facts.{Facts, facts, patterns-most}
+use Rattle.geometry.proofs.Facts.{Facts, facts, patterns-most, kind-most}
 use Rattle.geometry.proofs.Bounds.{words-few}
 use Rattle.geometry.proofs.Places.{offset-lt, matches-least}
 use Rattle.reference.specs.Calls.{Call, clear, write, erase, read, firstMatch, allMatch, held}
 use Rattle.reference.specs.Refusals.{RefusalRow, _given-when_, firstRefusal}
 use Rattle.reference.specs.Array.{Array, emptied, entryAt, Sound, lowest, counted, matchesOf, arrayRefusals, arrayAccepted, arrayOutcome, arrayStep}
-use Rattle.reference.proofs.Refused.{passes}
 use Rattle.reference.proofs.Lowest.{holding, LowestIs, at-first, at-none, lowest-is, hits-are}
 use Rattle.reference.proofs.Emptied.{emptied-sound}
 use Rattle.report.specs.Figures.{Bytes}
 use Rattle.report.specs.Lines.{answerLine, firstLine}
 use Rattle.report.proofs.Measures.{Small, answer-line-most, stop-line-most, first-line-most}
 use Rattle.job.specs.declared.Command.{Command}
-use Rattle.job.specs.Files.{headerOf, geometryOf, commandsFrom, commandsOf, commandsOutside, badFile, tooLarge, geometryStops, fileStops, fileStop}
+use Rattle.job.specs.Files.{headerOf, geometryOf, commandsFrom, commandsOf, geometryStops, fileStops, fileStop}
 use Rattle.job.specs.Decoding.{decoded}
 use Rattle.job.specs.Output.{obeyed, arrayCommand, answers, numbered, report, printed, output}
 use Rattle.job.proofs.Unstopped.{Unstopped, unstopped}
@@ -104,16 +102,6 @@ module _ (g : Geometry) (ok : valid g ≡ true) (shallow : g .depth ≤ 1024) (e
       go (some call) = given call (firstRefusal (arrayRefusals g call)) refl
 
 -- ---- lines
-
--- kinds are 0, 1 and 2
-kind-most : (g : Geometry) → valid g ≡ true → g .kind < 3
-unfolding valid
-kind-most g ok = lt-of-not-le (λ l. false≢true (sym (invalid l) ∙ ok))
-  where
-    invalid : 3 ≤ g .kind → valid g ≡ false
-    invalid l =
-        rw (ne-eqb (g .kind) transposed (λ e. omega arith), ne-eqb (g .kind) cascaded (λ e. omega arith), ne-eqb (g .kind) segmented (λ e. omega arith))
-        (and-false (between 1 4096 (g .depth)))
 
 module _ (g : Geometry) (ok : valid g ≡ true) (shallow : g .depth ≤ 1024) where
   first-most : length (firstLine g) ≤ 34

@@ -1,9 +1,9 @@
 -- The run of a job, command by command: what has been printed and what the commands that are left will print make all its
 -- lines, and the tables are always those of an array.
-use Prim.Native.Nat.{ℕ, zero, suc, _+_, _-_, _*_, _≤_, _<_}
-use mathlib.Core.Path.{_≡_, refl, sym, ap, ap₂, _∙_}
+use Prim.Native.Nat.{ℕ, suc, _+_, _-_, _*_, _≤_, _<_}
+use mathlib.Core.Path.{_≡_, refl, sym, ap, _∙_}
 use mathlib.Core.Bool.{true}
-use mathlib.Core.List.{List, [], _∷_, _++_, append-assoc, append-nil}
+use mathlib.Core.List.{List, [], _++_, append-assoc, append-nil}
 use native.Mathlib.Omega.{arith}
 use lib.ListN.{length, length-append}
 use Rattle.geometry.specs.declared.Geometry.{Geometry}
@@ -23,7 +23,6 @@ use Rattle.report.specs.Figures.{Bytes}
 use Rattle.report.specs.Lines.{answerLine, firstLine}
 use Rattle.report.specs.Appended.{Appended}
 use Rattle.report.proofs.Appending.{appended-none, same-length, appended-more, room-after}
-use Rattle.job.specs.declared.Command.{Command}
 use Rattle.job.specs.Files.{headerOf, geometryOf, commandAt, commandsFrom, commandsOf}
 use Rattle.job.specs.Output.{arrayCommand, answers, numbered, report}
 use Rattle.job.specs.Commands.{commanded, Obeys}

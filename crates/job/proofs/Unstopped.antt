@@ -1,17 +1,17 @@
 -- What is known of a file that nothing stops: each of its tests failed.
-use Prim.Native.Nat.{_+_, _*_, _≤_}
+use Prim.Native.Nat.{ℕ, _+_, _*_, _≤_}
 use mathlib.Core.Path.{_≡_, refl}
 use mathlib.Core.Logic.{_↔_}
-use mathlib.Core.Bool.{Bool, true, false, _||_, true≢false}
-use mathlib.Core.Option.{none}
+use mathlib.Core.Bool.{Bool, true, false, cond, _||_, true≢false}
+use mathlib.Core.Option.{Option, none, some}
 use native.Mathlib.Omega.{arith}
 use lib.ListN.{length}
-use borrow.Author.Tests.{ltb-false, not-false}
+use borrow.Author.Tests.{ltb-false}
 use Rattle.geometry.specs.Valid.{valid}
 use Rattle.geometry.specs.Stages.{indicatorWords}
-use Rattle.reference.proofs.Refused.{passes}
 use Rattle.report.specs.Figures.{Bytes}
-use Rattle.job.specs.Files.{headerOf, geometryOf, commandsOutside, badFile, tooLarge, geometryStops, fileStops, fileStop}
+use Rattle.job.specs.Files.{headerOf, geometryOf, commandsOutside, badFile, tooLarge, fileStop}
+use Rattle.job.proofs.Reading.{geometry-stops, file-stops}
 
 pub record Unstopped (file : Bytes) : Type 0 where
   pub is-valid : valid (geometryOf file) ≡ true
@@ -26,14 +26,29 @@ neither : (a b : Bool) → ((a || b) ≡ false) ↔ ((a ≡ false) × (b ≡ fal
 neither true b = (λ h. absurd (true≢false h), λ p. p .0)
 neither false b = (λ h. (refl, h), λ p. p .1)
 
+tests-failed : (file : Bytes) → fileStop file ≡ none → (badFile file ≡ false) × ((valid (geometryOf file) ≡ true) × (tooLarge (geometryOf file) ≡ false))
+tests-failed file e =
+    go (badFile file) (valid (geometryOf file)) (tooLarge (geometryOf file)) refl refl refl (rw (file-stops file, geometry-stops (geometryOf file)) at e)
+  where
+    stopped : {n : ℕ} → _≡_ {A = Option ℕ} (some n) none → ⊥
+    stopped e = let z : _≡_ {A = ℕ} 0 1 = cc in omega arith
+
+    go : (bad ok large : Bool) → badFile file ≡ bad → valid (geometryOf file) ≡ ok → tooLarge (geometryOf file) ≡ large
+        → _≡_ {A = Option ℕ} (cond bad (some 7) (cond ok (cond large (some 9) none) (some 1))) none
+        → (badFile file ≡ false) × ((valid (geometryOf file) ≡ true) × (tooLarge (geometryOf file) ≡ false))
+    go true ok large b v l e = absurd (stopped e)
+    go false true true b v l e = absurd (stopped e)
+    go false true false b v l e = (b, (v, l))
+    go false false large b v l e = absurd (stopped e)
+
 pub unstopped : (file : Bytes) → fileStop file ≡ none → Unstopped file
-unfolding fileStops geometryStops badFile commandsOutside tooLarge
+unfolding badFile commandsOutside tooLarge
 unstopped file e =
-    let (good, (right, (small, _))) = passes (fileStops file) e in
+    let (good, (right, small)) = tests-failed file e in
     let file-passed = simp neither at good in
     let size-passed = simp neither at small in
     record {
-      is-valid = not-false _ right;
+      is-valid = right;
       shallow = omega (arith, ltb-false);
       few-words = omega (arith, ltb-false);
       short = omega (arith, ltb-false);

@@ -17,11 +17,11 @@ use Rattle.report.specs.Lines.{ended, line, entryText, answerItems, answ
 
 -- ---- figures
 
-pub digits-long : (b k n : ℕ) → length (digits b k n) ≡ k
+digits-long : (b k n : ℕ) → length (digits b k n) ≡ k
 digits-long b zero n = refl
 digits-long b (suc k) n = omega (arith, length-append (digits b k (n / b)) (glyph (n % b) ∷ []), digits-long b k (n / b))
 
-pub places-most : (k most n : ℕ) → n < 10 ^ suc k → places most n ≤ suc k
+places-most : (k most n : ℕ) → n < 10 ^ suc k → places most n ≤ suc k
 unfolding places
 places-most k zero n h = omega arith
 places-most zero (suc most) n h = rw (lt-ltb n 10 h, places) (omega arith)
@@ -31,7 +31,7 @@ places-most (suc k) (suc most) n h = go (ltb n 10) (places-most k most (n / 10) 
     go true rest = omega arith
     go false rest = omega arith
 
-pub decimal-most : (k n : ℕ) → n < 10 ^ suc k → length (decimal n) ≤ suc k
+decimal-most : (k n : ℕ) → n < 10 ^ suc k → length (decimal n) ≤ suc k
 unfolding decimal
 decimal-most k n h = rw (digits-long 10 (places n n) n) (places-most k n n h)
 

@@ -1,7 +1,7 @@
 -- What a function that prints into a buffer leaves: its bytes from a place on, and every other byte as it was.
 use Prim.Native.Nat.{ℕ, _+_, _≤_}
 use mathlib.Core.Path.{_≡_}
-use mathlib.Core.List.{List, _++_}
+use mathlib.Core.List.{_++_}
 use lib.ListN.{length, take, drop}
 use Rattle.report.specs.Figures.{Bytes}
 

@@ -28,7 +28,7 @@ use Rattle.report.proofs.Measures.{Small, answer-line-most, stop-line-most, fir
 use Rattle.job.specs.declared.Command.{Command}
 use Rattle.job.specs.Files.{headerOf, geometryOf, commandsFrom, commandsOf, geometryStops, fileStops, fileStop}
 use Rattle.job.specs.Decoding.{decoded}
-use Rattle.job.specs.Output.{obeyed, arrayCommand, answers, numbered, report, printed, output}
+use Rattle.job.specs.Output.{obeyed, arrayCommand, answers, answersOf, numbered, report, printed, output}
 use Rattle.job.proofs.Unstopped.{Unstopped, unstopped}
 use Rattle.job.proofs.Obeying.{command-sound}
 
@@ -137,7 +137,7 @@ report-most file u =
     omega (
       arith,
       few,
-      length-append (firstLine g) (numbered 0 (answers g (emptied g) (commandsOf file))),
+      length-append (firstLine g) (numbered 0 (answersOf file)),
       first-most g (u .is-valid) (u .shallow),
       numbered-most g (u .is-valid) (u .shallow) 0 (emptied g) (emptied-sound g) (commandsOf file) (omega arith),
     )

@@ -11,7 +11,6 @@ use Rattle.geometry.specs.Stages.{indicatorWords}
 use Rattle.geometry.specs.Checks.{sizesOf}
 use Rattle.geometry.proofs.Facts.{facts}
 use Rattle.geometry.proofs.Places.{matches-least}
-use Rattle.reference.specs.Array.{emptied}
 use Rattle.reference.specs.Tables.{Tables}
 use Rattle.calls.specs.Answers.{tables}
 use Rattle.report.specs.Figures.{Bytes}
@@ -21,8 +20,8 @@ use Rattle.job.specs.declared.Header.{Header}
 use Rattle.job.specs.declared.Stop.{Stop}
 use Rattle.job.specs.declared.Opened.{Opened}
 use Rattle.job.specs.declared.Opened.the-variants.{Job, Stopped}
-use Rattle.job.specs.Files.{headerOf, geometryOf, commandsOf, fileStops, fileStop}
-use Rattle.job.specs.Output.{answers, printed, output}
+use Rattle.job.specs.Files.{headerOf, geometryOf, fileStops, fileStop}
+use Rattle.job.specs.Output.{answersOf, printed, output}
 use Rattle.job.specs.Left.{matchesLeft, Ready, Runs, Ample, lent, over, leaves, Ran}
 use Rattle.job.specs.Read.{stopNumber, Opens}
 use Rattle.job.proofs.Unstopped.{unstopped}
@@ -104,5 +103,5 @@ unfolding output printed leaves
 job-ran {file} {h} {z} f s i m s' i' m' entries words match-words runs =
     let store = over-is s' _ s _ entries (ap (λ (t : Tables). t .store) (runs .tables)) in
     let indicators = over-is i' _ i _ words (ap (λ (t : Tables). t .indicators) (runs .tables)) in
-    let matches = over-is m' _ m _ match-words (runs .matches-after ∙ ap (λ (k : ℕ). matchesLeft (answers (geometryOf file) (emptied (geometryOf file)) (commandsOf file)) (take k m)) (f .same-matches)) in
+    let matches = over-is m' _ m _ match-words (runs .matches-after ∙ ap (λ (k : ℕ). matchesLeft (answersOf file) (take k m)) (f .same-matches)) in
     record { bytes = rw (f .unstopped) (runs .bytes); tables = rw (f .unstopped) (λ j. lent (store j) (indicators j) (matches j)) }

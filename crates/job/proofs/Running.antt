@@ -11,33 +11,26 @@ use Rattle.geometry.specs.Valid.{valid}
 use Rattle.geometry.specs.Sizes.{matchWords}
 use Rattle.geometry.specs.Stages.{indicatorWords}
 use Rattle.reference.specs.Calls.{Answer, clear, matchesAfter}
-use Rattle.reference.specs.Refusals.{firstRefusal}
 use Rattle.reference.specs.Array.{Array, emptied, ArrayOutcome, Sound}
 use Rattle.reference.specs.Tables.{Tables}
 use Rattle.reference.specs.Image.{tablesOf}
-use Rattle.reference.specs.Steps.{badMatches, ownRefusals, refusals, accepted, outcome, step}
+use Rattle.reference.specs.Steps.{badMatches, ownRefusals, refusals, step}
 use Rattle.reference.proofs.Limits.{lengths-pass}
-use Rattle.reference.proofs.Emptied.{emptied-sound, cleared-tables}
+use Rattle.reference.proofs.Emptied.{emptied-sound}
 use Rattle.reference.proofs.Agreement.{Agrees}
+use Rattle.reference.proofs.History.{passed-empties}
 use Rattle.report.specs.Figures.{Bytes}
 use Rattle.report.specs.Lines.{answerLine, firstLine}
 use Rattle.report.specs.Appended.{Appended}
 use Rattle.report.proofs.Appending.{appended-none, same-length, appended-more, room-after}
-use Rattle.job.specs.Files.{headerOf, geometryOf, commandAt, commandsFrom, commandsOf}
-use Rattle.job.specs.Output.{arrayCommand, answers, numbered, report}
+use Rattle.job.specs.Files.{headerOf, geometryOf, commandAt, commandsFrom}
+use Rattle.job.specs.Output.{arrayCommand, answers, answersOf, numbered, report}
 use Rattle.job.specs.Commands.{commanded, Obeys}
-use Rattle.job.specs.Left.{arrayAfter, matchesLeft, Runs}
+use Rattle.job.specs.Left.{arrayAfter, arrayOf, matchesLeft, Runs}
 use Rattle.job.proofs.Obeying.{command-agrees, command-matches}
 
--- The lines of all commands, the array that they leave, and the match word.
 abbrev allLines : Bytes → Bytes
-allLines file = numbered 0 (answers (geometryOf file) (emptied (geometryOf file)) (commandsOf file))
-
-abbrev lastArray : Bytes → Array
-lastArray file = arrayAfter (geometryOf file) (emptied (geometryOf file)) (commandsOf file)
-
-abbrev lastMatches : Bytes → List ℕ → List ℕ
-lastMatches file lent = matchesLeft (answers (geometryOf file) (emptied (geometryOf file)) (commandsOf file)) lent
+allLines file = numbered 0 (answersOf file)
 
 -- Before command k, which stands at byte `from`; `left` commands are still to run. Lines are printed from `at₀` on.
 pub record Progress (file : Bytes) (lent : List ℕ) (out₀ : Bytes) (at₀ : ℕ) (t : Tables) (matches : List ℕ) (out : Bytes) (at from k : ℕ) : Type 0 where
@@ -50,16 +43,16 @@ pub record Progress (file : Bytes) (lent : List ℕ) (out₀ : Bytes) (at₀ : �
   pub to-print : done ++ numbered k (answers (geometryOf file) array (commandsFrom file left from)) ≡ allLines file
   pub sound : Sound (geometryOf file) array
   pub tables : t ≡ tablesOf (geometryOf file) array
-  pub to-hold : arrayAfter (geometryOf file) array (commandsFrom file left from) ≡ lastArray file
+  pub to-hold : arrayAfter (geometryOf file) array (commandsFrom file left from) ≡ arrayOf file
   pub long : length matches ≡ matchWords (geometryOf file)
-  pub to-match : matchesLeft (answers (geometryOf file) array (commandsFrom file left from)) matches ≡ lastMatches file lent
+  pub to-match : matchesLeft (answers (geometryOf file) array (commandsFrom file left from)) matches ≡ matchesLeft (answersOf file) lent
 
 -- ---- the first clear
 
-clear-empties : (g : Geometry) (t : Tables) → valid g ≡ true → length (t .store) ≡ g .depth → length (t .indicators) ≡ indicatorWords g
+clear-leaves : (g : Geometry) (t : Tables) → valid g ≡ true → length (t .store) ≡ g .depth → length (t .indicators) ≡ indicatorWords g
     → step g t clear .tables ≡ tablesOf g (emptied g)
-unfolding step refusals firstRefusal ownRefusals badMatches outcome accepted
-clear-empties g t ok entries words = rw (ok, lengths-pass g t .1 (entries, words)) (cleared-tables g)
+unfolding refusals ownRefusals badMatches
+clear-leaves g t ok entries words = passed-empties g t (rw ok, (rw (lengths-pass g t .1 (entries, words)), tt))
 
 -- ---- the turns
 
@@ -81,7 +74,7 @@ progress-start {file} {lent} {entry} {out} t {u} {at} ok entries words long clea
   bytes = appended-none out at (omega (arith, first .within, same-length first));
   to-print = refl;
   sound = emptied-sound (geometryOf file);
-  tables = cleared ∙ clear-empties (geometryOf file) t ok entries words;
+  tables = cleared ∙ clear-leaves (geometryOf file) t ok entries words;
   to-hold = refl;
   long = long;
   to-match = refl;

@@ -1,4 +1,4 @@
--- What a job leaves in the lent tables.
+-- What a job leaves in the tables that are lent to it, and what its run asks of them.
 use Prim.Native.Nat.{ℕ, _≤_}
 use mathlib.Core.Path.{_≡_}
 use mathlib.Core.List.{List, [], _∷_, _++_}
@@ -16,12 +16,15 @@ use Rattle.report.specs.Appended.{Appended}
 use Rattle.job.specs.declared.Header.{Header}
 use Rattle.job.specs.declared.Command.{Command}
 use Rattle.job.specs.Files.{headerOf, geometryOf, commandsOf, fileStop}
-use Rattle.job.specs.Output.{arrayCommand, answers, report, output}
+use Rattle.job.specs.Output.{arrayCommand, answersOf, report, output}
 
 -- The array after some commands.
 unfoldable pub arrayAfter : Geometry → Array → List Command → Array
 arrayAfter g es [] = es
 arrayAfter g es (c ∷ cs) = arrayAfter g (arrayCommand g es c .array) cs
+
+abbrev pub arrayOf : Bytes → Array
+arrayOf file = arrayAfter (geometryOf file) (emptied (geometryOf file)) (commandsOf file)
 
 -- The match word after some answers: the one in the last of them that has one.
 unfoldable pub matchesLeft : List Answer → (lent : List ℕ) → List ℕ
@@ -40,8 +43,8 @@ pub record Ready (file : Bytes) (header : Header) (store indicators matches out 
 -- What a job leaves that runs on tables and a match word of its own lengths.
 pub record Runs (file : Bytes) (after : Tables) (lent matches : List ℕ) (out out-after : Bytes) (r : ℕ) : Type 0 where
   pub bytes : Appended out out-after 0 r (report file)
-  pub tables : after ≡ tablesOf (geometryOf file) (arrayAfter (geometryOf file) (emptied (geometryOf file)) (commandsOf file))
-  pub matches-after : matches ≡ matchesLeft (answers (geometryOf file) (emptied (geometryOf file)) (commandsOf file)) lent
+  pub tables : after ≡ tablesOf (geometryOf file) (arrayOf file)
+  pub matches-after : matches ≡ matchesLeft (answersOf file) lent
 
 -- Lengths that are enough for any job that nothing stops, and for any output.
 pub record Ample (store indicators matches out : ℕ) : Type 0 where
@@ -67,12 +70,11 @@ over used lent = used ++ drop (length used) lent
 unfoldable pub leaves : Bytes → Option ℕ → Lent → Lent
 leaves file (some n) before = before
 leaves file none before =
-    let g = geometryOf file in
-    let t = tablesOf g (arrayAfter g (emptied g) (commandsOf file)) in
+    let t = tablesOf (geometryOf file) (arrayOf file) in
     record {
       store = over (t .store) (before .store);
       indicators = over (t .indicators) (before .indicators);
-      matches = over (matchesLeft (answers g (emptied g) (commandsOf file)) (take (matchWords g) (before .matches))) (before .matches);
+      matches = over (matchesLeft (answersOf file) (take (matchWords (geometryOf file)) (before .matches))) (before .matches);
     }
 
 -- Of any job: the first r bytes of the buffer are its output, the others as lent, and every word of every table is as said.

@@ -31,10 +31,13 @@ numbered k [] = []
 numbered k (x ∷ xs) = answerLine k x ++ numbered (k + 1) xs
 
 -- "reads one job on standard input, clears, and runs it"
-unfoldable pub report : Bytes → Bytes
-report file = firstLine (geometryOf file) ++ numbered 0 (answers (geometryOf file) (emptied (geometryOf file)) (commandsOf file))
+abbrev pub answersOf : Bytes → List Answer
+answersOf file = answers (geometryOf file) (emptied (geometryOf file)) (commandsOf file)
 
--- What stands for a job that some number stops, or none.
+unfoldable pub report : Bytes → Bytes
+report file = firstLine (geometryOf file) ++ numbered 0 (answersOf file)
+
+-- What is printed of a job that nothing stops, and of one that a number stops.
 unfoldable pub printed : Bytes → Option ℕ → Bytes
 printed file none = report file
 printed file (some n) = stopLine n

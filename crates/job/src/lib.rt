@@ -18,36 +18,36 @@ ghost use Rattle.job.specs.Left.{Ready, Runs, Ample, lent, Ran};
 ghost use Rattle.job.specs.Read.{Opens, Decodes, stopNumber};
 
 // The six fields of a header.
-pub struct Header {
-    pub geometry: Geometry,
+struct Header {
+    geometry: Geometry,
     // How many commands there are.
-    pub commands: u32,
+    commands: u32,
     // Where the first begins, in bytes from the start of the file.
-    pub offset: u32,
+    offset: u32,
 }
 
 // The three fields of a command.
-pub struct Command {
-    pub operation: u32,
-    pub address: u32,
-    pub pattern: u32,
+struct Command {
+    operation: u32,
+    address: u32,
+    pattern: u32,
 }
 
 // Why a whole file is stopped.
-pub enum Stop {
+enum Stop {
     BadFile,
     BadGeometry,
     TooLarge,
 }
 
 // A file that passed its checks, or its stop.
-pub enum Opened {
+enum Opened {
     Job(Header, Sizes),
     Stopped(Stop),
 }
 
 // The call that a command asks for. A command with another operation or a stray field asks for none.
-pub enum Decoded {
+enum Decoded {
     Asks(Call),
     Nothing,
 }
@@ -65,7 +65,7 @@ impl Stop {
     }
 }
 
-// The field at a place of the file.
+// The field at a place of the file, which the header or the command that it is in shows to be one.
 fn field(file: &[u8], at: usize) -> u32
     requires { ⌜ at + 4 ≤ length (now file) ⌝ }
     ensures { λ r. ⌜ r ≡ field (now (file .entry)) at ⌝ }
@@ -77,6 +77,7 @@ fn field(file: &[u8], at: usize) -> u32
     first + 256 * (second + 256 * (third + 256 * fourth))
 }
 
+// `open` has tested that the file has one.
 fn header_of(file: &[u8]) -> Header
     requires { ⌜ 24 ≤ length (now file) ⌝ }
     ensures { λ r. ⌜ r ≡ headerOf (now (file .entry)) ⌝ }
@@ -93,6 +94,7 @@ fn header_of(file: &[u8]) -> Header
     }
 }
 
+// The command at a place of the file. `run_job` shows that the file has it.
 fn command_at(file: &[u8], at: usize) -> Command
     requires { ⌜ at + 12 ≤ length (now file) ⌝ }
     ensures { λ r. ⌜ r ≡ commandAt (now (file .entry)) at ⌝ }
@@ -118,7 +120,7 @@ fn size(header: Header) -> Opened
 {
     let checked = header.geometry.check();
     match checked {
-        Checked::Refused(why) => Opened::Stopped(Stop::BadGeometry),
+        Checked::Refused(_) => Opened::Stopped(Stop::BadGeometry),
         Checked::Accepted(sizes) => {
             if 1024 < header.geometry.depth || 4096 < sizes.indicator_words {
                 Opened::Stopped(Stop::TooLarge)
@@ -129,6 +131,7 @@ fn size(header: Header) -> Opened
     }
 }
 
+// The stops of a file, in their order.
 fn open(file: &[u8]) -> Opened
     ensures { λ r. ⌜ Opens (fileStops (now (file .entry))) (headerOf (now (file .entry))) r ⌝ }
 {
@@ -200,7 +203,7 @@ fn run_command(
     }
 }
 
-// Runs a job that nothing stops, on tables and a match word of its own lengths. `run` shows what is asked.
+// Runs a job that nothing stops, on tables and a match word of its own lengths. `run_within` shows what is asked.
 fn run_job(
     file: &[u8],
     header: Header,

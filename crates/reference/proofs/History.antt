@@ -61,9 +61,12 @@ clear-passes g t e = not-refused g t clear cleared refl e
 pub clear-valid : (g : Geometry) (t : Tables) → step g t clear .answer ≡ cleared → valid g ≡ true
 clear-valid g t e = passed-valid g t clear (clear-passes g t e)
 
-clear-empties : (g : Geometry) (t : Tables) → step g t clear .answer ≡ cleared → step g t clear .tables ≡ tablesOf g (emptied g)
+pub passed-empties : (g : Geometry) (t : Tables) → Passed (refusals g t clear) → step g t clear .tables ≡ tablesOf g (emptied g)
 unfolding step outcome accepted
-clear-empties g t e = rw (passed-none (refusals g t clear) (clear-passes g t e)) (cleared-tables g)
+passed-empties g t p = rw (passed-none (refusals g t clear) p) (cleared-tables g)
+
+clear-empties : (g : Geometry) (t : Tables) → step g t clear .answer ≡ cleared → step g t clear .tables ≡ tablesOf g (emptied g)
+clear-empties g t e = passed-empties g t (clear-passes g t e)
 
 pub history : (g : Geometry) (t : Tables) (cs : History) → step g t clear .answer ≡ cleared → Follows g (emptied g) t (clear ∷ cs)
 unfolding run after arrayAnswers arrayAfter arrayStep arrayOutcome arrayRefusals firstRefusal arrayAccepted shape

@@ -13,9 +13,9 @@ use Rattle.job.proofs.Reading.{large-by-sizes, geometry-stops}
 use Rattle.job.proofs.size.Statement.{statement}
 use Rattle.job.proofs.size.Tie as tie
 
-accepted : (k : tie.After-checked2) →
-    let g = k .before .before .before .args .header .geometry in (valid g ≡ true) × (k .checked2 .given .0 .0 ≡ sizesOf g)
-accepted k = checked-accepted _ _ (sym (k .before .before .check .ensures) ∙ k .checked2 .given .1)
+accepted : (k : tie.After-checked) →
+    let g = k .before .before .before .args .header .geometry in (valid g ≡ true) × (k .checked .given .0 .0 ≡ sizesOf g)
+accepted k = checked-accepted _ _ (sym (k .before .before .check .ensures) ∙ k .checked .given .1)
 
 decided : (k : tie.Joined1) → tooLarge (k .before .before .before .before .before .before .args .header .geometry) ≡ k .if1 .if2
 decided k =
@@ -26,7 +26,7 @@ decided k =
 
 returns : tie.Need-returns
 returns c =
-    geometry-stops _ ∙ rw (checked-refused _ _ (sym (c .before .before .before .check .ensures) ∙ c .before .checked .given .1))
+    geometry-stops _ ∙ rw (checked-refused _ _ (sym (c .before .before .check .ensures) ∙ c .enum-told .given .1))
 
 returns-2 : tie.Need-returns-2
 returns-2 c = geometry-stops _ ∙ rw (accepted (c .before .before .before .before) .0, decided (c .before), c .if2 .taken)

@@ -46,7 +46,7 @@ fn main() -> ExitCode {
         println!("{HELP}");
         return ExitCode::SUCCESS;
     }
-    if options.only_job.is_some() || !options.only_one() {
+    if options.runs_jobs() {
         if let Err(what) = camrun::is_there(&options.camrun) {
             eprintln!("{what}");
             return ExitCode::from(2);
@@ -86,7 +86,9 @@ fn run(options: &Options) -> Counts {
     ));
     counts.add(HISTORIES.run_all(options, options.histories));
     counts.add(SINGLE_CALLS.run_all(options, options.calls));
-    counts.add(parts::run_listing(options));
-    counts.add(JOBS.run_all(options, options.jobs));
+    if options.runs_jobs() {
+        counts.add(parts::run_listing(options));
+        counts.add(JOBS.run_all(options, options.jobs));
+    }
     counts
 }

@@ -8,7 +8,7 @@ check: runs the library and the program camrun beside document 01, written out a
   --seed N           seed of the random trials (default 1)
   --histories N      number of random histories (default 100000)
   --calls N          number of random single calls (default 200000)
-  --jobs N           number of random jobs (default 3000)
+  --jobs N           number of random jobs (default 3000); with 0 the program camrun is not needed
   --only-history I   run history I of this seed and nothing else
   --only-call I      run single call I of this seed and nothing else
   --only-job I       run job I of this seed and nothing else
@@ -77,5 +77,10 @@ impl Options {
     pub fn only_one(&self) -> bool {
         let asked = [self.only_history, self.only_call, self.only_job];
         asked.iter().any(Option::is_some)
+    }
+
+    /// Whether the program camrun is run at all.
+    pub fn runs_jobs(&self) -> bool {
+        self.only_job.is_some() || !self.only_one() && self.jobs > 0
     }
 }

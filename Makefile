@@ -7,7 +7,7 @@ JOB = examples/listing.txt
 run:
 	@mkdir -p target
 	@case '$(JOB)' in *.job) cp '$(JOB)' target/run.job ;; *) tools/camjob asm '$(JOB)' target/run.job ;; esac
-	@echo "Proving and building camrun. The first time takes about two minutes." >&2
+	@[ -e target/bin/camrun ] || echo "Proving and building camrun, which takes about two minutes." >&2
 	@log=$$(rt check camrun 2>&1) || { echo "$$log" >&2; exit 1; }
 	@target/bin/camrun < target/run.job
 

@@ -46,9 +46,13 @@ tables s i = record { store = s; indicators = i }
 abbrev pub left : Answer → (store indicators matches : List ℕ) → Outcome
 left r s i m = record { answer = answerFor r m; tables = tables s i; matches = m }
 
--- Of any call that is lent a match word, though it may have no use for it: the answer and the tables are the step's, and the
--- match word is the one in the answer, or else as lent.
+-- What a call leaves that is lent a match word, though it may have no use for it: the answer and the tables are the step's, and
+-- the match word is the one in the answer, or else as lent.
+abbrev pub lentStep : Geometry → Tables → (lent : List ℕ) → calls.Call (List ℕ) → Outcome
+lentStep g t m c = record { answer = step g t c .answer; tables = step g t c .tables; matches = matchesAfter (step g t c .answer) m }
+
+-- A call of the code that leaves that.
 pub record Performed (g : Geometry) (call : Call) (r : Answer) (before after : Tables) (lent now : List ℕ) : Type 0 where
-  pub answer : answerFor r now ≡ step g before (callFor call lent) .answer
-  pub tables-after : after ≡ step g before (callFor call lent) .tables
-  pub matches : now ≡ matchesAfter (step g before (callFor call lent) .answer) lent
+  pub answer : answerFor r now ≡ lentStep g before lent (callFor call lent) .answer
+  pub tables-after : after ≡ lentStep g before lent (callFor call lent) .tables
+  pub matches : now ≡ lentStep g before lent (callFor call lent) .matches

@@ -10,6 +10,7 @@ fn main() {
     let mut store = [0u32; 1024];
     let mut indicators = [0u64; 4096];
     let mut matches = [0u64; 16];
+    // As large as the longest report could be.
     let mut out = [0u8; 391215];
     let printed = job::run(
         &file[..length],

@@ -26,7 +26,7 @@ use Rattle.report.proofs.Appending.{appended-none, same-length, appended-more, 
 use Rattle.job.specs.Files.{headerOf, geometryOf, commandAt, commandsFrom}
 use Rattle.job.specs.Output.{arrayCommand, answers, answersOf, numbered, report}
 use Rattle.job.specs.Commands.{commanded, Obeys}
-use Rattle.job.specs.Left.{arrayAfter, arrayOf, matchesLeft, Runs}
+use Rattle.job.specs.Left.{arrayLeft, jobArray, matchesLeft, Runs}
 use Rattle.job.proofs.Obeying.{command-agrees, command-matches}
 
 abbrev allLines : Bytes → Bytes
@@ -43,7 +43,7 @@ pub record Progress (file : Bytes) (lent : List ℕ) (out₀ : Bytes) (at₀ : �
   pub to-print : done ++ numbered k (answers (geometryOf file) array (commandsFrom file left from)) ≡ allLines file
   pub sound : Sound (geometryOf file) array
   pub tables : t ≡ tablesOf (geometryOf file) array
-  pub to-hold : arrayAfter (geometryOf file) array (commandsFrom file left from) ≡ arrayOf file
+  pub to-hold : arrayLeft (geometryOf file) array (commandsFrom file left from) ≡ jobArray file
   pub long : length matches ≡ matchWords (geometryOf file)
   pub to-match : matchesLeft (answers (geometryOf file) array (commandsFrom file left from)) matches ≡ matchesLeft (answersOf file) lent
 
@@ -119,7 +119,7 @@ module _ {file : Bytes} {lent : List ℕ} {out₀ out : Bytes} {t : Tables} {m :
 
     pub progress-next : {out' : Bytes} {t' : Tables} {m' : List ℕ} {r : ℕ} → Obeys (commanded g t m (commandAt file from)) k t' m' out out' at r
         → length m' ≡ length m → Progress file lent out₀ at₀ t' m' out' r (from + 12) (k + 1)
-    unfolding commandsFrom answers numbered arrayAfter matchesLeft
+    unfolding commandsFrom answers numbered arrayLeft matchesLeft
     progress-next {out'} {t'} {m'} {r} o same = record {
       left = p .left - 1;
       array = next .array;
@@ -140,7 +140,7 @@ module _ {file : Bytes} {lent : List ℕ} {out₀ out : Bytes} {t : Tables} {m :
   -- ---- where none is left
 
   pub finished : {entry : Bytes} → Appended entry out₀ 0 at₀ (firstLine g) → headerOf file .commands ≤ k → Runs file t lent m entry out at
-  unfolding commandsFrom answers numbered arrayAfter matchesLeft report
+  unfolding commandsFrom answers numbered arrayLeft matchesLeft report
   finished first none-left =
       let zero-left : p .left ≡ 0 = omega (arith, p .counted) in
       let all : p .done ≡ allLines file = sym (append-nil (p .done)) ∙ (rw zero-left at (p .to-print)) in

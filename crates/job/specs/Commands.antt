@@ -4,20 +4,19 @@ use mathlib.Core.Path.{_≡_}
 use mathlib.Core.List.{List}
 use mathlib.Core.Option.{Option, none, some}
 use Rattle.geometry.specs.declared.Geometry.{Geometry}
-use Rattle.reference.specs.Calls.{Call, refused, matchesAfter}
+use Rattle.reference.specs.Calls.{Call, refused}
 use Rattle.reference.specs.Tables.{Tables}
-use Rattle.reference.specs.Steps.{Outcome, step}
+use Rattle.reference.specs.Steps.{Outcome}
+use Rattle.calls.specs.Answers.{lentStep}
 use Rattle.report.specs.Figures.{Bytes}
 use Rattle.report.specs.Lines.{answerLine}
 use Rattle.report.specs.Appended.{Appended}
 use Rattle.job.specs.declared.Command.{Command}
 use Rattle.job.specs.Decoding.{decoded}
 
--- What is left where a match word is lent, though only all-match may use it.
 unfoldable pub performed : Geometry → Tables → (lent : List ℕ) → Option (Call (List ℕ)) → Outcome
 performed g t m none = record { answer = refused 8; tables = t; matches = m }
-performed g t m (some call) =
-    record { answer = step g t call .answer; tables = step g t call .tables; matches = matchesAfter (step g t call .answer) m }
+performed g t m (some call) = lentStep g t m call
 
 unfoldable pub commanded : Geometry → Tables → (lent : List ℕ) → Command → Outcome
 commanded g t m c = performed g t m (decoded m c)

@@ -1,5 +1,5 @@
--- Job files and what they print, as rows of one table: document 01's listing, and each whole-file stop on both sides of its
--- limits and in its order. proofs/Examples.antt computes them all.
+-- Job files and what they print, as rows of one table: document 01's listing; the whole-file stops, 7 and 9 on both sides of
+-- their limits; their order; 8 before 3 and 4. proofs/Examples.antt computes them all.
 use Prim.Native.Nat.{ℕ, _-_, _/_, _%_}
 use Prim.Native.String.{String}
 use mathlib.Core.List.{List, [], _∷_, _++_}

@@ -55,7 +55,7 @@ badFile file = (ltb (length file) 24 || ltb 16384 (length file)) || commandsOuts
 unfoldable pub tooLarge : Geometry → Bool
 tooLarge g = ltb 1024 (g .depth) || ltb 4096 (indicatorWords g)
 
--- "Whole-file stops, in this order: 7, .. 1; 9": those of the geometry, and all.
+-- "Whole-file stops, in this order": those of the geometry, and all.
 unfoldable pub geometryStops : Geometry → List RefusalRow
 geometryStops g = 1 given-when not (valid g) ∷ 9 given-when tooLarge g ∷ []
 

@@ -19,12 +19,12 @@ use Rattle.job.specs.Files.{headerOf, geometryOf, commandsOf, fileStop}
 use Rattle.job.specs.Output.{arrayCommand, answersOf, report, output}
 
 -- The array after some commands.
-unfoldable pub arrayAfter : Geometry → Array → List Command → Array
-arrayAfter g es [] = es
-arrayAfter g es (c ∷ cs) = arrayAfter g (arrayCommand g es c .array) cs
+unfoldable pub arrayLeft : Geometry → Array → List Command → Array
+arrayLeft g es [] = es
+arrayLeft g es (c ∷ cs) = arrayLeft g (arrayCommand g es c .array) cs
 
-abbrev pub arrayOf : Bytes → Array
-arrayOf file = arrayAfter (geometryOf file) (emptied (geometryOf file)) (commandsOf file)
+abbrev pub jobArray : Bytes → Array
+jobArray file = arrayLeft (geometryOf file) (emptied (geometryOf file)) (commandsOf file)
 
 -- The match word after some answers: the one in the last of them that has one.
 unfoldable pub matchesLeft : List Answer → (lent : List ℕ) → List ℕ
@@ -43,7 +43,7 @@ pub record Ready (file : Bytes) (header : Header) (store indicators matches out 
 -- What a job leaves that runs on tables and a match word of its own lengths.
 pub record Runs (file : Bytes) (after : Tables) (lent matches : List ℕ) (out out-after : Bytes) (r : ℕ) : Type 0 where
   pub bytes : Appended out out-after 0 r (report file)
-  pub tables : after ≡ tablesOf (geometryOf file) (arrayOf file)
+  pub tables : after ≡ tablesOf (geometryOf file) (jobArray file)
   pub matches-after : matches ≡ matchesLeft (answersOf file) lent
 
 -- Lengths that are enough for any job that nothing stops, and for any output.
@@ -54,12 +54,12 @@ pub record Ample (store indicators matches out : ℕ) : Type 0 where
   pub room : 391215 ≤ out
 
 -- The store, the indicators and the match word that are lent to any job, larger than it may need.
-pub record Lent : Type 0 where
+pub record LentTables : Type 0 where
   pub store : List ℕ
   pub indicators : List ℕ
   pub matches : List ℕ
 
-abbrev pub lent : (store indicators matches : List ℕ) → Lent
+abbrev pub lent : (store indicators matches : List ℕ) → LentTables
 lent s i m = record { store = s; indicators = i; matches = m }
 
 -- A table of which the first words are used.
@@ -67,10 +67,10 @@ abbrev pub over : (used lent : List ℕ) → List ℕ
 over used lent = used ++ drop (length used) lent
 
 -- A job that runs leaves the tables of its array, and the words of a lent table past its own as lent. A stop leaves all.
-unfoldable pub leaves : Bytes → Option ℕ → Lent → Lent
+unfoldable pub leaves : Bytes → Option ℕ → LentTables → LentTables
 leaves file (some n) before = before
 leaves file none before =
-    let t = tablesOf (geometryOf file) (arrayOf file) in
+    let t = tablesOf (geometryOf file) (jobArray file) in
     record {
       store = over (t .store) (before .store);
       indicators = over (t .indicators) (before .indicators);
@@ -78,6 +78,6 @@ leaves file none before =
     }
 
 -- Of any job: the first r bytes of the buffer are its output, the others as lent, and every word of every table is as said.
-pub record Ran (file : Bytes) (before after : Lent) (out out-after : Bytes) (r : ℕ) : Type 0 where
+pub record Ran (file : Bytes) (before after : LentTables) (out out-after : Bytes) (r : ℕ) : Type 0 where
   pub bytes : Appended out out-after 0 r (output file)
   pub tables : after ≡ leaves file (fileStop file) before

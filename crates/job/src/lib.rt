@@ -65,7 +65,7 @@ impl Stop {
     }
 }
 
-// The field at a place of the file, which the header or the command that it is in shows to be one.
+// The field at a place of the file. `header_of` and `command_at` show that its four bytes are there.
 fn field(file: &[u8], at: usize) -> u32
     requires { ⌜ at + 4 ≤ length (now file) ⌝ }
     ensures { λ r. ⌜ r ≡ field (now (file .entry)) at ⌝ }
@@ -77,7 +77,7 @@ fn field(file: &[u8], at: usize) -> u32
     first + 256 * (second + 256 * (third + 256 * fourth))
 }
 
-// `open` has tested that the file has one.
+// The header of a file. `open` has tested that there is one.
 fn header_of(file: &[u8]) -> Header
     requires { ⌜ 24 ≤ length (now file) ⌝ }
     ensures { λ r. ⌜ r ≡ headerOf (now (file .entry)) ⌝ }
@@ -106,8 +106,8 @@ fn command_at(file: &[u8], at: usize) -> Command
     }
 }
 
-// Whether some command would lie in the header or past the end of a file of this length. The sum is taken in 64 bits, in
-// which it cannot wrap.
+// Whether the offset lies in the header, or the commands would end past a file of this length. An offset past the end counts
+// also where there is no command. The sum is taken in 64 bits, in which it cannot wrap.
 fn is_outside(header: Header, length: usize) -> bool
     ensures { λ r. ⌜ r ≡ commandsOutside header length ⌝ }
 {
@@ -146,7 +146,7 @@ fn open(file: &[u8]) -> Opened
     }
 }
 
-// A call whose command has a field that it does not use.
+// The call, if the field that it does not use is 0.
 fn unless_stray(call: Call, field: u32) -> Decoded
     ensures { λ r. ⌜ Decodes r (λ m. unused field (some (callFor call m))) ⌝ }
 {
@@ -259,7 +259,8 @@ fn run_within(
     }
 }
 
-// Runs the job in `file`, prints its report into `out` and gives the number of bytes.
+// Runs the job in `file`, prints its report into `out` and gives the number of bytes. `out` is enough for any report: a first
+// line of 34 bytes and 1,363 lines of 287.
 pub fn run(
     file: &[u8],
     store: &mut [u32; 1024],

@@ -11,7 +11,7 @@ unfoldable pub ended : List Bytes → Bytes
 ended [] = ascii "\n"
 ended (item ∷ items) = ascii " " ++ (item ++ ended items)
 
--- "One space stands between items."
+-- "one space stands between items"
 unfoldable pub line : (first : Bytes) → (others : List Bytes) → Bytes
 line first others = first ++ ended others
 

@@ -54,7 +54,7 @@ impl Header {
         ]
     }
 
-    /// "The offset plus 12 × the number of commands", a whole number, which 32 bits may not hold.
+    /// "the offset plus 12 × the number of commands", a whole number, which 32 bits may not hold.
     pub fn end(&self) -> u64 {
         u64::from(self.offset) + COMMAND as u64 * u64::from(self.commands)
     }

@@ -10,7 +10,7 @@ use crate::shapes::{break_rule, random_geometry, Pool};
 /// As many commands as a file has room for.
 pub const MOST_COMMANDS: usize = (LONGEST_FILE - HEADER) / COMMAND;
 
-/// As deep as a job may be, most of them with as many indicator words as it may have.
+/// As deep as a job may be, and with as many indicator words as it may have.
 const DEEP: [Geometry; 6] = [
     geometry(TRANSPOSED, 1024, 8, 1),
     geometry(CASCADED, 1024, 8, 1),
@@ -20,7 +20,7 @@ const DEEP: [Geometry; 6] = [
     geometry(SEGMENTED, 1024, 12, 64),
 ];
 
-/// As many indicator words as a job may have, and the most rows.
+/// As many indicator words as a job may have, and the cascaded kind at its widest.
 const LARGEST: [Geometry; 6] = [
     geometry(TRANSPOSED, 64, 12, 1),
     geometry(TRANSPOSED, 512, 9, 1),

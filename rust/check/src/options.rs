@@ -16,8 +16,8 @@ check: runs the library and the program camrun beside document 01, written out a
   --trace            print the name or number of each trial before it runs, to find one that crashes
   --help             print this
 
-Each case, vector, history, single call and job counts one, and so does, for each random part, that
-it met all it is made for. A few trials may not, which is then a failure. A job that fails is cut
+Each case, vector, history, single call and job counts one, the listing that camrun prints too, and
+so does, for each random part, that it met all it is made for. A few trials may not, which is then a failure. A job that fails is cut
 down and put into a file, whose name is printed.
 The exit status is 0 when nothing failed. The last line is 'N passed, M failed'.";
 

@@ -44,7 +44,7 @@ module _ (file : Bytes) (o : Opened) (stop : Stop) (is : o ≡ Stopped stop) (op
 -- ---- a job that runs
 
 -- What is known of its header and its sizes.
-pub record Fits (file : Bytes) (h : Header) (z : Sizes) : Type 0 where
+pub record Runnable (file : Bytes) (h : Header) (z : Sizes) : Type 0 where
   pub unstopped : fileStop file ≡ none
   pub same-header : h ≡ headerOf file
   pub same-words : z .«indicator_words» ≡ indicatorWords (geometryOf file)
@@ -53,9 +53,9 @@ pub record Fits (file : Bytes) (h : Header) (z : Sizes) : Type 0 where
   pub words : z .«indicator_words» ≤ 4096
   pub match-words : z .«match_words» ≤ 16
 
-pub fits : (file : Bytes) (o : Opened) (h : Header) (z : Sizes) → o ≡ Job h z → Opens (fileStops file) (headerOf file) o → Fits file h z
+pub runnable : (file : Bytes) (o : Opened) (h : Header) (z : Sizes) → o ≡ Job h z → Opens (fileStops file) (headerOf file) o → Runnable file h z
 unfolding sizesOf
-fits file o h z is opens =
+runnable file o h z is opens =
     let (none-stops, (header, sizes)) = rw is at opens in
     let u = unstopped file none-stops in
     let least = matches-least _ (facts _ (u .is-valid)) in
@@ -70,7 +70,7 @@ fits file o h z is opens =
     }
 
 -- Its parts are in the lent tables, and it is ready to run on them.
-module _ {file : Bytes} {h : Header} {z : Sizes} (f : Fits file h z) {store indicators matches out : ℕ} (ample : Ample store indicators matches out) where
+module _ {file : Bytes} {h : Header} {z : Sizes} (f : Runnable file h z) {store indicators matches out : ℕ} (ample : Ample store indicators matches out) where
   pub entries-within : h .geometry .depth ≤ store
   entries-within = omega (arith, f .entries, ample .entries)
 
@@ -95,7 +95,7 @@ over-is : (used t lent : List ℕ) (n : ℕ) → length used ≡ n → used ≡ 
 over-is used t lent n long same = ap (λ (k : ℕ). used ++ drop k lent) (sym long) ∙ ap (λ (u : List ℕ). over u lent) same
 
 -- the parts, with what the lent tables hold past them
-pub job-ran : {file : Bytes} {h : Header} {z : Sizes} → Fits file h z → (s i m s' i' m' : List ℕ) {out out' : Bytes} {r : ℕ}
+pub job-ran : {file : Bytes} {h : Header} {z : Sizes} → Runnable file h z → (s i m s' i' m' : List ℕ) {out out' : Bytes} {r : ℕ}
     → length s' ≡ h .geometry .depth → length i' ≡ z .«indicator_words» → length m' ≡ z .«match_words»
     → Runs file (tables s' i') (take (z .«match_words») m) m' out out' r
     → Ran file (lent s i m) (lent (s' ++ drop (h .geometry .depth) s) (i' ++ drop (z .«indicator_words») i) (m' ++ drop (z .«match_words») m)) out out' r

@@ -29,11 +29,10 @@ map-cond f true x y = refl
 map-cond f false x y = refl
 
 -- the array is told the length of the match word that is lent
-pub decoded-shape : (m : List ℕ) (c : Command) → decoded (length m) c ≡ Option·map shape (decoded m c)
+decoded-shape : (m : List ℕ) (c : Command) → decoded (length m) c ≡ Option·map shape (decoded m c)
 unfolding decoded shape
 decoded-shape m c = simp (map-cond shape)
 
--- A command on the tables of an array agrees with the same command on the array, and leaves the match word of its answer.
 module _ (g : Geometry) (ok : valid g ≡ true) (es : Array) (sound : Sound g es) (c : Command) where
   obeyed-agrees : (m : List ℕ) (d : Option (Call (List ℕ))) → Agrees g (performed g (tablesOf g es) m d) (obeyed g es (Option·map shape d))
   unfolding performed obeyed
@@ -47,6 +46,7 @@ module _ (g : Geometry) (ok : valid g ≡ true) (es : Array) (sound : Sound g es
   pub command-sound : Sound g (arrayCommand g es c .array)
   command-sound = command-agrees (replicate (matchWords g) 0) (length-replicate (matchWords g) 0) .sound
 
+-- it leaves the match word of its answer
 pub command-matches : (g : Geometry) (t : Tables) (m : List ℕ) (c : Command) → commanded g t m c .matches ≡ matchesAfter (commanded g t m c .answer) m
 unfolding commanded performed matchesAfter
 command-matches g t m c = go (decoded m c)

@@ -27,6 +27,9 @@ infix 68 _prints_
 abbrev pub headerS : (commands offset : ℕ) → Bytes
 headerS n at = bytesOf (2 ∷ 8 ∷ 2 ∷ 2 ∷ n ∷ at ∷ [])
 
+abbrev pub command : (operation address pattern : ℕ) → Bytes
+command operation address pattern = bytesOf (operation ∷ address ∷ pattern ∷ [])
+
 -- A job of no commands with this geometry.
 abbrev pub alone : (kind depth width set : ℕ) → Bytes
 alone kind depth width set = bytesOf (kind ∷ depth ∷ width ∷ set ∷ 0 ∷ 24 ∷ [])
@@ -34,8 +37,19 @@ alone kind depth width set = bytesOf (kind ∷ depth ∷ width ∷ set ∷ 0 ∷
 unfoldable pub listing : Bytes
 listing =
     headerS 10 24
-    ++ bytesOf
-    (1 ∷ 3 ∷ 1 ∷ 1 ∷ 2 ∷ 1 ∷ 1 ∷ 3 ∷ 2 ∷ 3 ∷ 0 ∷ 1 ∷ 3 ∷ 0 ∷ 2 ∷ 4 ∷ 0 ∷ 1 ∷ 2 ∷ 2 ∷ 0 ∷ 3 ∷ 0 ∷ 1 ∷ 1 ∷ 8 ∷ 0 ∷ 3 ∷ 0 ∷ 4 ∷ [])
+    -- 3:=1, 2:=1, 3:=2
+    ++ command 1 3 1
+    ++ command 1 2 1
+    ++ command 1 3 2
+    -- first-match 1, first-match 2, all-match 1
+    ++ command 3 0 1
+    ++ command 3 0 2
+    ++ command 4 0 1
+    -- erase 2, first-match 1, 8:=0, first-match 4
+    ++ command 2 2 0
+    ++ command 3 0 1
+    ++ command 1 8 0
+    ++ command 3 0 4
 
 abbrev pub firstS : String
 firstS = "kind 2 depth 8 width 2 set 2"
@@ -65,8 +79,8 @@ examples =
     ∷ headerS 0 23 prints ("job no 7" ∷ [])
     ∷ headerS 0 25 prints ("job no 7" ∷ [])
     -- a command that the file holds, and one that it lacks a byte of
-    ∷ (headerS 1 24 ++ bytesOf (6 ∷ 0 ∷ 0 ∷ [])) prints (firstS ∷ "0 clear" ∷ [])
-    ∷ take 35 (headerS 1 24 ++ bytesOf (6 ∷ 0 ∷ 0 ∷ [])) prints ("job no 7" ∷ [])
+    ∷ (headerS 1 24 ++ command 6 0 0) prints (firstS ∷ "0 clear" ∷ [])
+    ∷ take 35 (headerS 1 24 ++ command 6 0 0) prints ("job no 7" ∷ [])
     -- a bad geometry, and one too large by its depth and by its indicators
     ∷ alone 3 8 2 2 prints ("job no 1" ∷ [])
     ∷ alone 0 1024 8 1 prints ("kind 0 depth 1024 width 8 set 1" ∷ [])
@@ -76,5 +90,5 @@ examples =
     ∷ bytesOf (3 ∷ 8 ∷ 2 ∷ 2 ∷ 1 ∷ 24 ∷ []) prints ("job no 7" ∷ [])
     ∷ alone 3 1025 2 2 prints ("job no 1" ∷ [])
     -- 8 before 3 and 4, and the run goes on
-    ∷ (headerS 4 24 ++ bytesOf (2 ∷ 8 ∷ 1 ∷ 3 ∷ 1 ∷ 4 ∷ 7 ∷ 0 ∷ 0 ∷ 5 ∷ 0 ∷ 0 ∷ [])) prints (firstS ∷ "0 no 8" ∷ "1 no 8" ∷ "2 no 8" ∷ "3 was -" ∷ [])
+    ∷ (headerS 4 24 ++ command 2 8 1 ++ command 3 1 4 ++ command 7 0 0 ++ command 5 0 0) prints (firstS ∷ "0 no 8" ∷ "1 no 8" ∷ "2 no 8" ∷ "3 was -" ∷ [])
     ∷ []

@@ -13,6 +13,7 @@ use Rattle.report.specs.Figures.{Bytes}
 use Rattle.job.specs.declared.Header.{Header}
 use Rattle.job.specs.declared.Command.{Command}
 
+-- A byte of the file. Past its end it is 0, which counts for nothing: 7 stops a file that lacks a field.
 abbrev pub byteAt : Bytes → ℕ → ℕ
 byteAt file i = getD file i 0
 

@@ -31,6 +31,6 @@ abbrev pub callOf : Decoded → (lent : List ℕ) → Option (calls.Call (List �
 callOf (Asks call) m = some (callFor call m)
 callOf Nothing m = none
 
--- Whether that is the call, for every match word.
+-- That is the call, whatever match word is lent.
 abbrev pub Decodes : Decoded → (List ℕ → Option (calls.Call (List ℕ))) → Type 0
 Decodes d call = (m : List ℕ) → callOf d m ≡ call m

@@ -260,7 +260,7 @@ fn run_within(
 }
 
 // Runs the job in `file`, prints its report into `out` and gives the number of bytes. `out` is enough for any report: a first
-// line of 34 bytes and 1,363 lines of 287.
+// line of 34 bytes and 1,363 lines of 287. The first clause follows from the second; a caller's `&out[..n]` asks for it.
 pub fn run(
     file: &[u8],
     store: &mut [u32; 1024],

@@ -1,3 +1,4 @@
 pub mod Tested
 pub mod Indexed
 pub mod Shown
+pub mod Examples

@@ -36,7 +36,7 @@ answerFor (Refused why) m = refused (numberOf why)
 answerFor Cleared m = cleared
 answerFor (Held e) m = held (entryFor e)
 answerFor (At a w c) m = at (a .0) w c
-answerFor (None w) m = none w 0
+answerFor (None w c) m = none w c
 answerFor (Matched n) m = matched m n
 
 abbrev pub tables : (store indicators : List ℕ) → Tables

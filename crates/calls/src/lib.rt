@@ -1,6 +1,6 @@
 // A call, the answer to it and the entries in it, as the code has them; and entries as words of the store.
 use geometry::Refusal;
-use geometry::address::Address;
+use places::Address;
 ghost use mathlib.Core.Path.{_≡_};
 ghost use mathlib.Core.Bool.{cond, _||_};
 ghost use lib.Dec.{eqb, ltb};
@@ -37,6 +37,7 @@ pub enum Answer {
     },
     None {
         words_read: u16,
+        entries_compared: u16,
     },
     // The match word itself is in the lent one.
     Matched {

@@ -17,7 +17,7 @@ code-any (Refused why) m = refl
 code-any Cleared m = refl
 code-any (Held e) m = refl
 code-any (At a w n) m = refl
-code-any (None w) m = refl
+code-any (None w n) m = refl
 code-any (Matched n) m = refl
 
 -- The code's call was made with geometry h and call d, which are those of the contract.

@@ -3,7 +3,7 @@
 // value that stands at each function.
 use calls::Answer;
 use geometry::Geometry;
-use geometry::address::Address;
+use places::Address;
 ghost use mathlib.Core.Path.{_≡_};
 ghost use mathlib.Core.List.{[]};
 ghost use Rattle.reference.specs.Calls.{clear, write, erase, read, firstMatch, allMatch};
@@ -40,7 +40,10 @@ fn code(answer: Answer) -> u64
                 + 65536 * words_read as u64
                 + 0x1_0000_0000 * entries_compared as u64
         }
-        Answer::None { words_read } => 256 + 65535 + 65536 * words_read as u64,
+        Answer::None {
+            words_read,
+            entries_compared,
+        } => 256 + 65535 + 65536 * words_read as u64 + 0x1_0000_0000 * entries_compared as u64,
         Answer::Matched { hits } => 256 + hits as u64,
     }
 }

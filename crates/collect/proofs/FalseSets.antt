@@ -6,7 +6,7 @@ use mathlib.Core.Bool.{Bool, true, false, not, _&&_, and-assoc, and-false, and-e
 use mathlib.Core.List.{List, []}
 use native.Mathlib.Omega.{arith}
 use lib.Dec.{eqb}
-use lib.ListN.{length, getD}
+use lib.ListN.{getD}
 use borrow.Author.Count.{below-more}
 use borrow.Author.Tests.{eqb-true, eq-eqb, ne-eqb}
 use Rattle.words.specs.Rules.{any, Nowhere}
@@ -15,7 +15,7 @@ use Rattle.words.proofs.Rules.{both-ways, refuted, any-witness, any-true, any-f
 use Rattle.words.proofs.Bits.{bit-zero, bit-clear}
 use Rattle.geometry.specs.declared.Geometry.{Geometry}
 use Rattle.geometry.specs.Valid.{segmented}
-use Rattle.geometry.specs.Sizes.{sets, rowWords, addressOf}
+use Rattle.geometry.specs.Sizes.{sets, rowWords, addressOf, setLength}
 use Rattle.geometry.proofs.Facts.{Facts}
 use Rattle.geometry.proofs.Places.{word-lt}
 use Rattle.reference.specs.Entry.{emptyWord}
@@ -23,7 +23,6 @@ use Rattle.reference.specs.Search.{joined, indicated, seekEntry, isFalse, inSet
 use Rattle.reference.specs.Statements.{stores}
 use Rattle.reference.proofs.Searched.{false-means}
 use Rattle.calls.specs.Answers.{tables}
-use Rattle.words.proofs.Rules.{any-default}
 use Rattle.search.proofs.Seeking.{joined-in-sets}
 
 -- ---- one set
@@ -39,20 +38,20 @@ module _ (g : Geometry) (store : List ℕ) (key s : ℕ) where
   pub other-kind : (g .kind ≡ segmented → ⊥) → false ≡ setIsFalse
   other-kind h = sym (refuted setIsFalse (λ e. h (eqb-true (g .kind) segmented (false-means g (tables store []) key s 0 .0 e .0))))
 
-  -- a is the address at offset o, whose word the code compares with the key
-  module _ (a o : ℕ) (is : a ≡ addressOf g s o) (inside : a < length store) where
-    compared : equalAt o ≡ eqb (getD store a 0) key
-    compared = rw (← is, any-default store a 0 emptyWord inside)
+  -- a is the address at offset o, and v its word, which the code compares with the key
+  module _ (a o v : ℕ) (is : a ≡ addressOf g s o) (read : v ≡ getD store a emptyWord) where
+    compared : equalAt o ≡ eqb v key
+    compared = rw (← is, read)
 
-    pub entry-equal : o < g .«set_width» → getD store a 0 ≡ key → false ≡ setIsFalse
+    pub entry-equal : o < setLength g s → v ≡ key → false ≡ setIsFalse
     entry-equal within h =
-        let equal = compared ∙ eq-eqb (getD store a 0) key h in
+        let equal = compared ∙ eq-eqb v key h in
         sym (refuted setIsFalse (λ e. false≢true (sym (false-means g (tables store []) key s 0 .0 e .1 o within) ∙ equal)))
 
-    pub entry-passed : (next : ℕ) → Nowhere o equalAt → (getD store a 0 ≡ key → ⊥) → next ≡ o + 1 → Nowhere next equalAt
-    entry-passed next before h e = rw e (below-more _ o before (compared ∙ ne-eqb (getD store a 0) key h))
+    pub entry-passed : (next : ℕ) → Nowhere o equalAt → (v ≡ key → ⊥) → next ≡ o + 1 → Nowhere next equalAt
+    entry-passed next before h e = rw e (below-more _ o before (compared ∙ ne-eqb v key h))
 
-  pub no-entry : g .kind ≡ segmented → (n : ℕ) → g .«set_width» ≤ n → Nowhere n equalAt → true ≡ setIsFalse
+  pub no-entry : g .kind ≡ segmented → (n : ℕ) → setLength g s ≤ n → Nowhere n equalAt → true ≡ setIsFalse
   no-entry kind n l h = sym (false-means g (tables store []) key s 0 .1 (eq-eqb (g .kind) segmented kind, λ o m. h o (omega arith)))
 
 -- ---- one word
@@ -111,8 +110,8 @@ module _ (g : Geometry) (store indicators : List ℕ) (key : ℕ) where
     pub word-false : Facts g → j < rowWords g → r ≡ true → true ≡ anyIsFalse g (tables store indicators) key
     word-false f l e = sym (by-words f ∙ any-true (rowWords g) falseIn j l (rw is at (sym gave ∙ e)))
 
-    pub word-passed : Nowhere j falseIn → r ≡ false → Nowhere (j + 1) falseIn
-    word-passed before e = below-more _ j before (rw is at (sym gave ∙ e))
+    pub word-passed : (next : ℕ) → Nowhere j falseIn → r ≡ false → next ≡ j + 1 → Nowhere next falseIn
+    word-passed next before e n = rw n (below-more _ j before (rw is at (sym gave ∙ e)))
 
   pub no-word : Facts g → (j : ℕ) → rowWords g ≤ j → Nowhere j falseIn → false ≡ anyIsFalse g (tables store indicators) key
   no-word f j l h = sym (by-words f ∙ any-false (rowWords g) falseIn (λ i m. h i (omega arith)))

@@ -4,29 +4,25 @@ use Prim.Native.Nat.{ℕ, _+_, _*_, _/_, _%_, _<_, _≤_}
 use mathlib.Core.Path.{_≡_, refl, sym, ap, _∙_}
 use mathlib.Core.Bool.{Bool, true, false, cond, not, _&&_, _||_, and-eq-true-iff, and-true, and-false, and-assoc, and-or-distrib-left, or-self, or-false, or-comm}
 use mathlib.Core.List.{List, []}
-use native.Mathlib.Nat.{mul-comm, div-add-mod}
 use native.Mathlib.Omega.{arith}
 use lib.Dec.{eqb, ltb}
-use lib.Arith.{digits-div, digits-mod}
 use lib.Bits.{or-zero-l}
 use lib.ListN.{length, getD, replicate, length-replicate, getD-replicate}
 use lib.Seq.{ext-getD}
 use borrow.Author.Tests.{eqb-true, ltb-true, ltb-false, eq-eqb, ne-eqb, lt-ltb, le-ltb}
 use Rattle.words.specs.Rules.{tabulate}
 use Rattle.words.specs.Bits.{bit, word, setBit, clearBit, changeBit}
-use Rattle.words.proofs.Rules.{both-ways, length-tabulate, getD-tabulate, tabulate-ext}
+use Rattle.words.proofs.Rules.{both-ways, digits-same, length-tabulate, getD-tabulate, tabulate-ext}
 use Rattle.words.proofs.Bits.{bits-equal, bit-zero, bit-or, bit-set, bit-clear, bit-change, bit-word-all, length-changeBit}
 use Rattle.geometry.specs.declared.Geometry.{Geometry}
 use Rattle.geometry.specs.Valid.{segmented}
-use Rattle.geometry.specs.Sizes.{rowWords, setOf, offsetOf, addressOf}
+use Rattle.geometry.specs.Sizes.{rowWords, setOf, offsetOf, addressOf, setLength}
 use Rattle.geometry.proofs.Facts.{Facts}
-use Rattle.geometry.proofs.Places.{offset-lt, word-lt}
-use Rattle.reference.specs.Entry.{emptyWord}
-use Rattle.reference.specs.Tables.{Tables}
-use Rattle.reference.specs.Search.{joined, indicated, taken}
+use Rattle.geometry.proofs.Places.{offset-lt, address-same, word-lt}
+use Rattle.reference.specs.Tables.{Tables, storeWord}
+use Rattle.reference.specs.Search.{joined, indicated, chosen, taken}
 use Rattle.calls.specs.Answers.{tables}
-use Rattle.collect.specs.Marks.{marked, chosen, inWord}
-use Rattle.words.proofs.Rules.{any-default}
+use Rattle.collect.specs.Marks.{marked, inWord}
 use Rattle.search.proofs.Seeking.{joined-in-sets}
 
 -- ---- laws of marking
@@ -109,21 +105,6 @@ below-next n o = go (ltb n o) refl
         let past = ltb-false n o e in
         both-ways _ _ (λ l. eq-eqb n o (omega (arith, ltb-true n (o + 1) l))) (λ q. lt-ltb n (o + 1) (omega (arith, eqb-true n o q)))
 
--- a number is told by its quotient and its remainder
-digits-same : (n a s o : ℕ) → o < n → eqb a (n * s + o) ≡ (eqb (a / n) s && eqb (a % n) o)
-digits-same n a s o h = both-ways _ _ apart together
-  where
-    apart : eqb a (n * s + o) ≡ true → (eqb (a / n) s && eqb (a % n) o) ≡ true
-    apart e =
-        let same = eqb-true a (n * s + o) e in
-        and-eq-true-iff _ _ .1
-        (eq-eqb (a / n) s (rw (same, mul-comm) (digits-div s h)), eq-eqb (a % n) o (rw (same, mul-comm) (digits-mod s h)))
-
-    together : (eqb (a / n) s && eqb (a % n) o) ≡ true → eqb a (n * s + o) ≡ true
-    together e =
-        let both = and-eq-true-iff (eqb (a / n) s) (eqb (a % n) o) .0 e in
-        eq-eqb a (n * s + o) (rw (← eqb-true (a / n) s (both .0), ← eqb-true (a % n) o (both .1)) (sym (div-add-mod a n)))
-
 -- what comes next adds to what was before
 next-part : (before here x y : Bool) → (here ≡ true → x ≡ y) → ((before || here) && x) ≡ ((before && x) || (here && y))
 next-part true true x y same = rw (same refl) (sym (or-self y))
@@ -135,53 +116,62 @@ next-part false false x y same = refl
 
 -- In the segmented kind an address of an indicated set is taken where the code finds its entry equal to the key, in the
 -- others always.
-module _ (g : Geometry) (store : List ℕ) (key a : ℕ) where
-  pub chosen-all : (g .kind ≡ segmented → ⊥) → chosen g store key a ≡ true
-  chosen-all h = rw (ne-eqb (g .kind) segmented h)
+module _ (g : Geometry) (t : Tables) (key a : ℕ) (inside : a < g .depth) where
+  pub chosen-all : (g .kind ≡ segmented → ⊥) → chosen g t key a ≡ true
+  chosen-all h = rw (lt-ltb a (g .depth) inside, ne-eqb (g .kind) segmented h)
 
-  pub chosen-equal : a < length store → g .kind ≡ segmented → chosen g store key a ≡ eqb (getD store a 0) key
-  chosen-equal h e = rw (e, any-default store a 0 emptyWord h)
+  pub chosen-equal : (v : ℕ) → v ≡ storeWord t a → g .kind ≡ segmented → chosen g t key a ≡ eqb v key
+  chosen-equal v read e = rw (lt-ltb a (g .depth) inside, e, ← read)
 
 -- ---- a set
 
 -- Of set s the addresses before offset o that are taken.
-unfoldable pub takenBefore : Geometry → (store : List ℕ) → (key s o a : ℕ) → Bool
-takenBefore g store key s o a = (eqb (setOf g a) s && ltb (offsetOf g a) o) && chosen g store key a
+unfoldable pub takenBefore : Geometry → Tables → (key s o a : ℕ) → Bool
+takenBefore g t key s o a = (eqb (setOf g a) s && ltb (offsetOf g a) o) && chosen g t key a
 
-module _ (g : Geometry) (store : List ℕ) (key s : ℕ) (ws : List ℕ) where
-  pub set-start : ws ≡ marked (takenBefore g store key s 0) ws
+module _ (g : Geometry) (t : Tables) (key s : ℕ) (ws : List ℕ) where
+  pub set-start : ws ≡ marked (takenBefore g t key s 0) ws
   unfolding takenBefore
   set-start = sym (marked-none _ ws (λ a. rw (le-ltb (offsetOf g a) 0 (omega arith), and-false (eqb (setOf g a) s))))
 
   -- at offset o the bit of its address is set where a test says that the address is taken
-  pub set-step : (o a : ℕ) → a ≡ addressOf g s o → o < g .«set_width» → (m : List ℕ) → a / 64 < length m → m ≡ marked (takenBefore g store key s o) ws
-      → (test : Bool) → chosen g store key a ≡ test → cond test (changeBit setBit m (a / 64) (a % 64)) m ≡ marked (takenBefore g store key s (o + 1)) ws
+  pub set-step : Facts g → (o a : ℕ) → a ≡ addressOf g s o → o < setLength g s → (m : List ℕ) → a / 64 < length m → m ≡ marked (takenBefore g t key s o) ws
+      → (test : Bool) → chosen g t key a ≡ test → cond test (changeBit setBit m (a / 64) (a % 64)) m ≡ marked (takenBefore g t key s (o + 1)) ws
   unfolding takenBefore
-  set-step o a e ho m hm before test t =
+  set-step f o a e ho m hm before test is =
       marked-one m a test hm
       ∙ rw before
       (marked-twice _ _ _ ws
-      (λ x. rw (below-next (offsetOf g x) o, and-or-distrib-left (eqb (setOf g x) s) (ltb (offsetOf g x) o), e, digits-same (g .«set_width») x s o ho)
+      (λ x. rw (below-next (offsetOf g x) o, and-or-distrib-left (eqb (setOf g x) s) (ltb (offsetOf g x) o), e, address-same g f x s o ho)
       (next-part (eqb (setOf g x) s && ltb (offsetOf g x) o) _ _ _ (here x))))
     where
-      here : (x : ℕ) → (eqb (setOf g x) s && eqb (offsetOf g x) o) ≡ true → chosen g store key x ≡ test
-      here x h = ap (chosen g store key) (eqb-true x (addressOf g s o) (digits-same (g .«set_width») x s o ho ∙ h) ∙ sym e) ∙ t
+      here : (x : ℕ) → (eqb (setOf g x) s && eqb (offsetOf g x) o) ≡ true → chosen g t key x ≡ test
+      here x h = ap (chosen g t key) (eqb-true x (addressOf g s o) (address-same g f x s o ho ∙ h) ∙ sym e) ∙ is
 
-  pub set-end : Facts g → (o : ℕ) → g .«set_width» ≤ o → marked (takenBefore g store key s o) ws ≡ marked (λ a. eqb (setOf g a) s && chosen g store key a) ws
+  -- every offset of the set is passed, and an address from the depth on is not taken
+  pub set-end : Facts g → (o : ℕ) → setLength g s ≤ o → marked (takenBefore g t key s o) ws ≡ marked (λ a. eqb (setOf g a) s && chosen g t key a) ws
   unfolding takenBefore
-  set-end f o h = marked-ext _ _ ws (λ a. rw (lt-ltb (offsetOf g a) o (omega (arith, offset-lt g f a)), and-true (eqb (setOf g a) s)))
+  set-end f o h = marked-ext _ _ ws (λ a. go a (eqb (setOf g a) s) (ltb a (g .depth)) refl refl _)
+    where
+      go : (a : ℕ) (here inside : Bool) → eqb (setOf g a) s ≡ here → ltb a (g .depth) ≡ inside → (x : Bool)
+          → ((here && ltb (offsetOf g a) o) && (inside && x)) ≡ (here && (inside && x))
+      go a false inside p q x = refl
+      go a true false p q x = and-false (ltb (offsetOf g a) o)
+      go a true true p q x =
+          let last = rw (eqb-true (setOf g a) s p) at (offset-lt g f a (ltb-true a (g .depth) q)) in
+          rw (lt-ltb (offsetOf g a) o (omega arith))
 
 -- ---- a row word
 
 -- Of the sets that row word j, which is w, indicates the addresses that are taken.
-unfoldable pub takenIn : Geometry → (store : List ℕ) → (key w j a : ℕ) → Bool
-takenIn g store key w j a = inWord w j (setOf g a) && chosen g store key a
+unfoldable pub takenIn : Geometry → Tables → (key w j a : ℕ) → Bool
+takenIn g t key w j a = inWord w j (setOf g a) && chosen g t key a
 
-module _ (g : Geometry) (store : List ℕ) (key j : ℕ) where
+module _ (g : Geometry) (t : Tables) (key j : ℕ) where
   -- what is taken of a set, and then what is left when its bit is cleared
   pub word-step : (rest b s : ℕ) → bit rest b ≡ true → b < 64 → s ≡ 64 * j + b → (m last : List ℕ)
-      → last ≡ marked (λ a. eqb (setOf g a) s && chosen g store key a) m
-      → marked (takenIn g store key (clearBit rest b) j) last ≡ marked (takenIn g store key rest j) m
+      → last ≡ marked (λ a. eqb (setOf g a) s && chosen g t key a) m
+      → marked (takenIn g t key (clearBit rest b) j) last ≡ marked (takenIn g t key rest j) m
   unfolding takenIn
   word-step rest b s here hb e m last done =
       rw done
@@ -198,8 +188,8 @@ module _ (g : Geometry) (store : List ℕ) (key j : ℕ) where
       formula true false l x same = refl
 
   -- no bit is left
-  pub word-end : (w rest : ℕ) → rest ≡ 0 → (m ws : List ℕ) → marked (takenIn g store key rest j) m ≡ marked (takenIn g store key w j) ws
-      → m ≡ marked (λ a. inWord w j (setOf g a) && chosen g store key a) ws
+  pub word-end : (w rest : ℕ) → rest ≡ 0 → (m ws : List ℕ) → marked (takenIn g t key rest j) m ≡ marked (takenIn g t key w j) ws
+      → m ≡ marked (λ a. inWord w j (setOf g a) && chosen g t key a) ws
   unfolding takenIn
   word-end w rest e m ws done = sym (marked-none _ m (λ a. rw (e, bit-zero, and-false (eqb (setOf g a / 64) j)))) ∙ done
 
@@ -215,13 +205,13 @@ module _ (g : Geometry) (store indicators : List ℕ) (key : ℕ) (ws : List ℕ
   all-start = sym (marked-none _ ws (λ a. rw (le-ltb (setOf g a / 64) 0 (omega arith))))
 
   pub all-step : (j w : ℕ) → w ≡ joined g (tables [] indicators) key j → (m last : List ℕ) → m ≡ marked (takenBelow g (tables store indicators) key j) ws
-      → last ≡ marked (λ a. inWord w j (setOf g a) && chosen g store key a) m → last ≡ marked (takenBelow g (tables store indicators) key (j + 1)) ws
+      → last ≡ marked (λ a. inWord w j (setOf g a) && chosen g (tables store []) key a) m → last ≡ marked (takenBelow g (tables store indicators) key (j + 1)) ws
   unfolding takenBelow taken indicated joined
   all-step j w e m last before done =
       done
       ∙ rw before
       (marked-twice _ _ _ ws
-      (λ a. let s = setOf g a in rw (below-next (s / 64) j, and-assoc (eqb (s / 64) j)) (next-part (ltb (s / 64) j) _ _ _ (λ q. ap (λ x. x && chosen g store key a) (here s q)))))
+      (λ a. let s = setOf g a in rw (below-next (s / 64) j, and-assoc (eqb (s / 64) j)) (next-part (ltb (s / 64) j) _ _ _ (λ q. ap (λ x. x && chosen g (tables store []) key a) (here s q)))))
     where
       here : (s : ℕ) → eqb (s / 64) j ≡ true → indicated g (tables store indicators) key s ≡ bit w (s % 64)
       here s q = rw (eqb-true (s / 64) j q, e)

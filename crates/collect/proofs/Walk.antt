@@ -1,5 +1,5 @@
 -- The walk over the set bits of a row word, the lowest first: each turn clears the lowest bit of what is left.
-use Prim.Native.Nat.{ℕ, _+_, _*_, _^_, _<_}
+use Prim.Native.Nat.{ℕ, _+_, _*_, _%_, _^_, _<_}
 use mathlib.Core.Path.{_≡_}
 use mathlib.Core.Bool.{true, not, and-eq-true-iff}
 use native.Mathlib.Omega.{arith}
@@ -20,29 +20,34 @@ pub record Left (g : Geometry) (j rest : ℕ) : Type 0 where
   pub small : rest < 2 ^ 64
   pub inside : InSets g rest j
 
--- A turn, where b is the lowest bit of what is left.
-pub record Turn (g : Geometry) (j rest b : ℕ) : Type 0 where
-  pub here : bit rest b ≡ true
-  pub bit-lt : b < 64
-  pub word-lt : j < 64
-  pub set-lt : 64 * j + b < sets g
-  pub less : clearBit rest b < rest
-  pub after : Left g j (clearBit rest b)
+-- A turn, where s is the set of the lowest bit of what is left.
+pub record Turn (g : Geometry) (j rest s : ℕ) : Type 0 where
+  pub here : bit rest (s % 64) ≡ true
+  pub whole : s ≡ 64 * j + s % 64
+  pub set-lt : s < sets g
+  pub less : clearBit rest (s % 64) < rest
+  pub after : Left g j (clearBit rest (s % 64))
 
-pub turn : (g : Geometry) → valid g ≡ true → (j rest b : ℕ) → Left g j rest → (rest ≡ 0 → ⊥)
-    → b ≡ trailingZeros 64 rest → Turn g j rest b
-turn g ok j rest b left some e =
-    let lowest : First 64 (bit rest) b = rw e (trailing-lowest 64 rest (left .small) (omega arith)) in
-    let set-lt = left .inside b (lowest .here) in
-    let less = clear-lt rest b (lowest .here) in
-    record {
-      here = lowest .here;
-      bit-lt = lowest .within;
-      word-lt = omega (arith, sets-few g (facts g ok));
-      set-lt = set-lt;
-      less = less;
-      after = record {
-        small = omega arith;
-        inside = λ i h. left .inside i (and-eq-true-iff (not (eqb i b)) (bit rest i) .0 (rw bit-clear at h) .1);
-      };
-    }
+module _ (g : Geometry) (j rest : ℕ) (left : Left g j rest) (some : rest ≡ 0 → ⊥) where
+  lowest : First 64 (bit rest) (trailingZeros 64 rest)
+  lowest = trailing-lowest 64 rest (left .small) (omega arith)
+
+  -- a row has 64 words at most
+  pub word-few : valid g ≡ true → j < 64
+  word-few ok = omega (arith, left .inside (trailingZeros 64 rest) (lowest .here), sets-few g (facts g ok))
+
+  pub turn : (s : ℕ) → s ≡ 64 * j + trailingZeros 64 rest → Turn g j rest s
+  turn s e =
+      let bit-of : s % 64 ≡ trailingZeros 64 rest = omega (arith, lowest .within) in
+      let here : bit rest (s % 64) ≡ true = rw bit-of (lowest .here) in
+      let less = clear-lt rest (s % 64) here in
+      record {
+        here = here;
+        whole = rw bit-of e;
+        set-lt = rw e (left .inside (trailingZeros 64 rest) (lowest .here));
+        less = less;
+        after = record {
+          small = omega (arith, left .small);
+          inside = λ i h. left .inside i (and-eq-true-iff (not (eqb i (s % 64))) (bit rest i) .0 (rw bit-clear at h) .1);
+        };
+      }

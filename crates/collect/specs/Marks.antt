@@ -1,23 +1,16 @@
 -- How all-match fills the match word: which addresses of which sets it marks.
 use Prim.Native.Nat.{ℕ, _+_, _*_, _/_, _%_}
-use mathlib.Core.Bool.{Bool, not, _&&_, _||_}
+use mathlib.Core.Bool.{Bool, _&&_}
 use mathlib.Core.List.{List}
 use lib.Dec.{eqb}
 use lib.Bits.{bitOr}
 use lib.ListN.{length, getD}
 use Rattle.words.specs.Rules.{tabulate}
 use Rattle.words.specs.Bits.{bit, word}
-use Rattle.geometry.specs.declared.Geometry.{Geometry}
-use Rattle.geometry.specs.Valid.{segmented}
-use Rattle.reference.specs.Entry.{emptyWord}
 
 -- Words in which the bits of the places that have r are set besides.
 unfoldable pub marked : (ℕ → Bool) → List ℕ → List ℕ
 marked r ws = tabulate (length ws) (λ j. bitOr (getD ws j 0) (word 64 (λ b. r (64 * j + b))))
-
--- Whether an address of an indicated set is taken: "in kind 2 every equal entry".
-abbrev pub chosen : Geometry → (store : List ℕ) → (key a : ℕ) → Bool
-chosen g store key a = not (eqb (g .kind) segmented) || eqb (getD store a emptyWord) key
 
 -- Whether row word j, which is w, indicates the set.
 abbrev pub inWord : (w j set : ℕ) → Bool

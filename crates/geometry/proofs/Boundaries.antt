@@ -6,7 +6,7 @@ use mathlib.Core.List.{List, [], _∷_, map}
 use Rattle.words.specs.Rules.{tabulate}
 use Rattle.geometry.specs.declared.Geometry.{Geometry}
 use Rattle.geometry.specs.Valid.{valid, kindRule}
-use Rattle.geometry.specs.Sizes.{sets, rowWords, matchWords}
+use Rattle.geometry.specs.Sizes.{sets, rowWords, matchWords, setLength}
 use Rattle.geometry.specs.Stages.{stages, stageWidth, stage, rowOf, rowsOf, rows, indicatorWords}
 
 abbrev pub four : (kind depth width set : ℕ) → Geometry
@@ -34,36 +34,37 @@ pub boundaries-hold : map (λ (r : Rule). valid (r .geometry)) boundaries ≡ ma
 unfolding valid kindRule
 boundaries-hold = refl
 
--- A geometry with its sets, the words of a row and of a match word, its stages, rows and words of the indicators, and the
--- rows of its last pattern.
+-- A geometry with its sets, the words of a row and of a match word, its stages, rows and words of the indicators; the lengths
+-- of its first and its last set; and the rows of its last pattern.
 pub record Size : Type 0 where
   pub geometry : Geometry
   pub expected : List (List ℕ)
 
-abbrev pub size : Geometry → (sets row match stages rows words : ℕ) → (last : List ℕ) → Size
-size g c r m n all words last = record { geometry = g; expected = (c ∷ r ∷ m ∷ n ∷ all ∷ words ∷ []) ∷ last ∷ [] }
+abbrev pub size : Geometry → (sets row match stages rows words : ℕ) → (lengths last : List ℕ) → Size
+size g c r m n all words lengths last = record { geometry = g; expected = (c ∷ r ∷ m ∷ n ∷ all ∷ words ∷ []) ∷ lengths ∷ last ∷ [] }
 
 abbrev pub sizesOf : Geometry → List (List ℕ)
 sizesOf g =
     (sets g ∷ rowWords g ∷ matchWords g ∷ stages g ∷ rows g ∷ indicatorWords g ∷ [])
+    ∷ (setLength g 0 ∷ setLength g (sets g - 1) ∷ [])
     ∷ rowsOf g (2 ^ g .«pattern_width» - 1) ∷ []
 
 abbrev pub sizes : List Size
 sizes =
-    size (four 0 64 1 1) 64 1 1 1 2 2 (1 ∷ [])
-    ∷ size (four 0 65 1 1) 65 2 2 1 2 4 (1 ∷ [])
-    ∷ size (four 0 32 9 1) 32 1 1 1 512 512 (511 ∷ [])
-    ∷ size (four 0 4096 12 1) 4096 64 64 1 4096 262144 (4095 ∷ [])
-    ∷ size (four 1 2 9 1) 2 1 1 1 512 512 (511 ∷ [])
-    ∷ size (four 1 2 10 1) 2 1 1 2 514 514 (511 ∷ 513 ∷ [])
-    ∷ size (four 1 128 18 1) 128 2 2 2 1024 2048 (511 ∷ 1023 ∷ [])
-    ∷ size (four 1 129 19 1) 129 3 3 3 1026 3078 (511 ∷ 1023 ∷ 1025 ∷ [])
-    ∷ size (four 1 1 27 1) 1 1 1 3 1536 1536 (511 ∷ 1023 ∷ 1535 ∷ [])
-    ∷ size (four 2 8 2 2) 4 1 1 1 4 4 (3 ∷ [])
-    ∷ size (four 2 128 12 2) 64 1 2 1 4096 4096 (4095 ∷ [])
-    ∷ size (four 2 130 12 2) 65 2 3 1 4096 8192 (4095 ∷ [])
-    ∷ size (four 2 4096 12 64) 64 1 64 1 4096 4096 (4095 ∷ []) ∷ []
+    size (four 0 64 1 1) 64 1 1 1 2 2 (1 ∷ 1 ∷ []) (1 ∷ [])
+    ∷ size (four 0 65 1 1) 65 2 2 1 2 4 (1 ∷ 1 ∷ []) (1 ∷ [])
+    ∷ size (four 0 32 9 1) 32 1 1 1 512 512 (1 ∷ 1 ∷ []) (511 ∷ [])
+    ∷ size (four 0 4096 12 1) 4096 64 64 1 4096 262144 (1 ∷ 1 ∷ []) (4095 ∷ [])
+    ∷ size (four 1 2 9 1) 2 1 1 1 512 512 (1 ∷ 1 ∷ []) (511 ∷ [])
+    ∷ size (four 1 2 10 1) 2 1 1 2 514 514 (1 ∷ 1 ∷ []) (511 ∷ 513 ∷ [])
+    ∷ size (four 1 128 18 1) 128 2 2 2 1024 2048 (1 ∷ 1 ∷ []) (511 ∷ 1023 ∷ [])
+    ∷ size (four 1 129 19 1) 129 3 3 3 1026 3078 (1 ∷ 1 ∷ []) (511 ∷ 1023 ∷ 1025 ∷ [])
+    ∷ size (four 1 1 27 1) 1 1 1 3 1536 1536 (1 ∷ 1 ∷ []) (511 ∷ 1023 ∷ 1535 ∷ [])
+    ∷ size (four 2 8 2 2) 4 1 1 1 4 4 (2 ∷ 2 ∷ []) (3 ∷ [])
+    ∷ size (four 2 128 12 2) 64 1 2 1 4096 4096 (2 ∷ 2 ∷ []) (4095 ∷ [])
+    ∷ size (four 2 130 12 2) 65 2 3 1 4096 8192 (2 ∷ 2 ∷ []) (4095 ∷ [])
+    ∷ size (four 2 4096 12 64) 64 1 64 1 4096 4096 (64 ∷ 64 ∷ []) (4095 ∷ []) ∷ []
 
 pub sizes-hold : map (λ (r : Size). sizesOf (r .geometry)) sizes ≡ map (λ (r : Size). r .expected) sizes
-unfolding sets rowWords matchWords stages stageWidth stage rowOf rowsOf rows indicatorWords tabulate
+unfolding sets rowWords matchWords setLength stages stageWidth stage rowOf rowsOf rows indicatorWords tabulate
 sizes-hold = refl

@@ -1,27 +1,53 @@
 -- Addresses, sets and offsets, and where the bit of a row and a set stands.
 use Prim.Native.Nat.{ℕ, _+_, _*_, _/_, _%_, _<_, _≤_}
-use mathlib.Core.Path.{_≡_, sym, ap, _∙_}
-use mathlib.Core.Bool.{true, _&&_, and-eq-true-iff}
+use mathlib.Core.Path.{_≡_, sym, _∙_}
+use mathlib.Core.Bool.{false, _&&_}
 use mathlib.Core.Logic.{_⊎_, inl, inr}
-use native.Mathlib.Nat.{le-of-suc-le-suc, lt-of-not-le, eq-or-lt-of-le, mod-lt, mul-comm, mul-le-mul-left, div-add-mod, div-lt-iff-lt-mul, div-div-eq-div-mul}
+use native.Mathlib.Nat.{le-of-suc-le-suc, eq-or-lt-of-le, mod-lt, div-one, mul-comm, mul-le-mul-left, div-add-mod, div-lt-iff-lt-mul, div-div-eq-div-mul}
 use native.Mathlib.Omega.{arith}
 use lib.Dec.{eqb}
 use lib.Arith.{digits-lt, digits-div, digits-mod}
-use borrow.Author.Tests.{eqb-true, eq-eqb}
-use Rattle.words.proofs.Rules.{both-ways}
+use Rattle.words.proofs.Rules.{digits-same}
 use Rattle.geometry.specs.declared.Geometry.{Geometry}
-use Rattle.geometry.specs.Sizes.{sets, rowWords, matchWords, setOf, offsetOf, addressOf}
-use Rattle.geometry.specs.Stages.{rows, indicatorWords}
+use Rattle.geometry.specs.Valid.{segmented}
+use Rattle.geometry.specs.Sizes.{sets, rowWords, matchWords, setOf, offsetOf, addressOf, setLength}
+use Rattle.geometry.specs.Stages.{stages, rows, indicatorWords}
 use Rattle.geometry.proofs.Facts.{Facts}
 
 module _ (g : Geometry) (f : Facts g) where
   pub set-lt : (a : ℕ) → a < g .depth → setOf g a < sets g
   set-lt a h = div-lt-iff-lt-mul (f .set-pos) .1 (omega arith)
 
-  pub offset-lt : (a : ℕ) → offsetOf g a < g .«set_width»
-  offset-lt a = mod-lt a (f .set-pos)
+  -- a set has 64 addresses at most
+  pub length-most : (s : ℕ) → setLength g s ≤ 64
+  unfolding setLength
+  length-most s = f .set-most
 
-  pub address-lt : (s o : ℕ) → s < sets g → o < g .«set_width» → addressOf g s o < g .depth
+  -- and no set is empty
+  pub length-pos : (s : ℕ) → s < sets g → 0 < setLength g s
+  unfolding setLength
+  length-pos s h = f .set-pos
+
+  -- only the segmented kind has sets of more than one address
+  pub length-alone : (s : ℕ) → eqb (g .kind) segmented ≡ false → setLength g s ≤ 1
+  unfolding setLength
+  length-alone s k = omega (arith, f .alone k)
+
+  -- and only where there is one stage
+  pub length-single : (s : ℕ) → (setLength g s ≤ 1) ⊎ (stages g ≡ 1)
+  unfolding setLength
+  length-single s = go (f .single)
+    where
+      go : (g .«set_width» ≡ 1) ⊎ (stages g ≡ 1) → (setLength g s ≤ 1) ⊎ (stages g ≡ 1)
+      go (inl one) = inl (omega arith)
+      go (inr one) = inr one
+
+  pub offset-lt : (a : ℕ) → a < g .depth → offsetOf g a < setLength g (setOf g a)
+  unfolding setLength
+  offset-lt a h = mod-lt a (f .set-pos)
+
+  pub address-lt : (s o : ℕ) → s < sets g → o < setLength g s → addressOf g s o < g .depth
+  unfolding setLength
   address-lt s o hs ho = omega (arith, digits-lt hs ho)
 
   -- past the last set there is no address
@@ -31,27 +57,35 @@ module _ (g : Geometry) (f : Facts g) where
   pub address-of : (a : ℕ) → addressOf g (setOf g a) (offsetOf g a) ≡ a
   address-of a = div-add-mod a (g .«set_width»)
 
-  pub set-of : (s o : ℕ) → o < g .«set_width» → setOf g (addressOf g s o) ≡ s
-  set-of s o h = rw mul-comm (digits-div s h)
+  -- an offset of any set is below the set width, by which addresses are numbered
+  offset-width : (s o : ℕ) → o < setLength g s → o < g .«set_width»
+  unfolding setLength
+  offset-width s o h = h
 
-  pub offset-of : (s o : ℕ) → o < g .«set_width» → offsetOf g (addressOf g s o) ≡ o
-  offset-of s o h = rw mul-comm (digits-mod s h)
+  pub set-of : (s o : ℕ) → o < setLength g s → setOf g (addressOf g s o) ≡ s
+  set-of s o h = rw mul-comm (digits-div s (offset-width s o h))
 
-  -- where a set has one address, the set is the address
-  pub alone-address : (s o : ℕ) → g .«set_width» ≡ 1 → o < g .«set_width» → addressOf g s o ≡ s
-  alone-address s o one h = let first : o ≡ 0 = omega arith in rw (one, first) (omega arith)
+  pub offset-of : (s o : ℕ) → o < setLength g s → offsetOf g (addressOf g s o) ≡ o
+  offset-of s o h = rw mul-comm (digits-mod s (offset-width s o h))
+
+  -- an address is that of a set and an offset exactly when these are its own
+  pub address-same : (a s o : ℕ) → o < setLength g s → eqb a (addressOf g s o) ≡ (eqb (setOf g a) s && eqb (offsetOf g a) o)
+  address-same a s o h = digits-same (g .«set_width») a s o (offset-width s o h)
+
+  -- where sets have one address, the set is the address
+  pub alone-address : (s o : ℕ) → eqb (g .kind) segmented ≡ false → o < setLength g s → addressOf g s o ≡ s
+  alone-address s o k h = let first : o ≡ 0 = omega (arith, length-alone s k) in rw (f .alone k, first) (omega arith)
+
+  pub alone-set : (a : ℕ) → eqb (g .kind) segmented ≡ false → setOf g a ≡ a
+  alone-set a k = rw (f .alone k) (div-one a)
 
   -- an address below that of s and o lies in an earlier set, or in s at an earlier offset
-  pub below-address : (a s o : ℕ) → o < g .«set_width» → a < addressOf g s o → (setOf g a < s) ⊎ ((setOf g a ≡ s) × (offsetOf g a < o))
-  below-address a s o ho h = go (eq-or-lt-of-le (le-of-suc-le-suc (div-lt-iff-lt-mul (f .set-pos) .1 (omega arith))))
+  pub below-address : (a s o : ℕ) → o < setLength g s → a < addressOf g s o → (setOf g a < s) ⊎ ((setOf g a ≡ s) × (offsetOf g a < o))
+  below-address a s o ho h = go (eq-or-lt-of-le (le-of-suc-le-suc (div-lt-iff-lt-mul (f .set-pos) .1 (omega (arith, offset-width s o ho)))))
     where
       go : (setOf g a ≡ s) ⊎ (setOf g a < s) → (setOf g a < s) ⊎ ((setOf g a ≡ s) × (offsetOf g a < o))
       go (inl e) = inr (e, omega (arith, rw e at (address-of a)))
       go (inr l) = inl l
-
-  -- no address from the depth on lies in a set
-  pub set-past : (a : ℕ) → g .depth ≤ a → sets g ≤ setOf g a
-  set-past a h = le-of-suc-le-suc (lt-of-not-le (λ l. omega (arith, address-lt (setOf g a) (offsetOf g a) l (offset-lt a), address-of a)))
 
   -- document 01's w of an address: the word of its set
   pub word-of : (a : ℕ) → a / (64 * g .«set_width») ≡ setOf g a / 64
@@ -99,19 +133,7 @@ module _ (g : Geometry) (f : Facts g) where
 
   -- two places are one exactly when their rows and their words are
   pub place-same : (r j q k : ℕ) → j < rowWords g → k < rowWords g → eqb (rowWords g * r + j) (rowWords g * q + k) ≡ (eqb r q && eqb j k)
-  place-same r j q k hj hk = both-ways _ _ apart together
-    where
-      apart : eqb (rowWords g * r + j) (rowWords g * q + k) ≡ true → (eqb r q && eqb j k) ≡ true
-      apart e =
-          let m = eqb-true (rowWords g * r + j) (rowWords g * q + k) e in
-          let same-row : r ≡ q = sym (row-of-place r j hj) ∙ ap (λ n. n / rowWords g) m ∙ row-of-place q k hk in
-          let same-word : j ≡ k = sym (word-of-place r j hj) ∙ ap (λ n. n % rowWords g) m ∙ word-of-place q k hk in
-          and-eq-true-iff _ _ .1 (eq-eqb r q same-row, eq-eqb j k same-word)
-
-      together : (eqb r q && eqb j k) ≡ true → eqb (rowWords g * r + j) (rowWords g * q + k) ≡ true
-      together e =
-          let both = and-eq-true-iff (eqb r q) (eqb j k) .0 e in
-          eq-eqb (rowWords g * r + j) (rowWords g * q + k) (rw (eqb-true r q (both .0), eqb-true j k (both .1)))
+  place-same r j q k hj hk = digits-same (rowWords g) (rowWords g * r + j) q k hk ∙ rw (row-of-place r j hj, word-of-place r j hj)
 
   pub place-of : (m : ℕ) → rowWords g * (m / rowWords g) + m % rowWords g ≡ m
   place-of m = div-add-mod m (rowWords g)

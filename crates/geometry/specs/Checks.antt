@@ -53,10 +53,6 @@ unfoldable pub checkedMatches : Geometry → (store indicators matches : ℕ) �
 checkedMatches g store indicators matches =
     andRow (checkedTables g store indicators) BadLengths (λ sizes. not (eqb matches (matchWords g)))
 
--- "address is D or more"
-abbrev pub andAddress : Checked → Geometry → (address : ℕ) → Checked
-andAddress x g a = andRow x BadAddress (λ sizes. leb (g .depth) a)
-
 -- "pattern is 2^P or more"
 abbrev pub andPattern : Checked → (pattern : ℕ) → Checked
 andPattern x p = andRow x BadPattern (λ sizes. leb (sizes .patterns) p)

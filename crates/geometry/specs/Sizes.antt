@@ -32,3 +32,7 @@ offsetOf g a = a % g .«set_width»
 
 abbrev pub addressOf : Geometry → (set offset : ℕ) → ℕ
 addressOf g s o = g .«set_width» * s + o
+
+-- How many addresses a set has: its offsets are the numbers below this one.
+unfoldable pub setLength : Geometry → (set : ℕ) → ℕ
+setLength g s = g .«set_width»

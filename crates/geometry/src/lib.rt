@@ -1,18 +1,22 @@
 // The four numbers of a memory, their check, and the sizes that follow from them.
-pub mod address;
-
-use address::Address;
 ghost use Prim.Native.Nat.{_^_, _<_};
 ghost use mathlib.Core.Path.{_≡_};
 ghost use mathlib.Core.Bool.{true};
 ghost use Rattle.geometry.specs.Valid.{between, segmentedRule, kindRule, valid};
 ghost use Rattle.geometry.specs.Sizes.{sets, rowWords};
 ghost use Rattle.geometry.specs.Stages.{stages, stageWidth, stage, rowOf, rows};
-ghost use Rattle.geometry.specs.Checks.{sizesOf, checked, checkedTables, checkedMatches, andAddress, andPattern, numberOf};
+ghost use Rattle.geometry.specs.Checks.{sizesOf, checked, checkedTables, checkedMatches, andRow, andPattern, numberOf};
+
+// The numbers of the kinds. The rest of the code has them by name.
+pub const TRANSPOSED: u32 = 0;
+
+pub const CASCADED: u32 = 1;
+
+pub const SEGMENTED: u32 = 2;
 
 // The four numbers, as they come from a file or a caller: nothing is assumed of them.
 pub struct Geometry {
-    // 0 transposed, 1 cascaded, 2 segmented.
+    // One of the kinds, or a number that is none.
     pub kind: u32,
     // The number of addresses.
     pub depth: u32,
@@ -69,21 +73,21 @@ pub enum Checked {
     Refused(Refusal),
 }
 
-// The rows of a call's address and pattern, tested where no row above them was given.
+// Rows of a call's own, tested where no row above them was given.
 impl Checked {
-    // Refusal 3 besides.
-    pub fn and_address(self, g: Geometry, address: Address) -> Checked
-        ensures { λ r. ⌜ r ≡ andAddress self g (address .0) ⌝ }
+    // One row more: its refusal where it applies.
+    pub fn and_row(self, why: Refusal, applies: bool) -> Checked
+        ensures { λ r. ⌜ r ≡ andRow self why (λ sizes. applies) ⌝ }
     {
         match self {
             Checked::Accepted(sizes) => {
-                if g.depth <= address.number() {
-                    Checked::Refused(Refusal::BadAddress)
+                if applies {
+                    Checked::Refused(why)
                 } else {
                     Checked::Accepted(sizes)
                 }
             }
-            Checked::Refused(why) => Checked::Refused(why),
+            Checked::Refused(above) => Checked::Refused(above),
         }
     }
 
@@ -122,9 +126,9 @@ fn kind_allows(kind: u32, depth: u32, width: u32, set: u32) -> bool
     ensures { λ r. ⌜ r ≡ kindRule kind depth width set ⌝ }
 {
     match kind {
-        0 => is_between(1, 12, width) && set == 1,
-        1 => is_between(1, 27, width) && set == 1,
-        2 => is_between(1, 12, width) && segmented_allows(depth, set),
+        TRANSPOSED => is_between(1, 12, width) && set == 1,
+        CASCADED => is_between(1, 27, width) && set == 1,
+        SEGMENTED => is_between(1, 12, width) && segmented_allows(depth, set),
         _ => false,
     }
 }
@@ -191,7 +195,7 @@ impl Geometry {
         requires { ⌜ valid self ≡ true ⌝ }
         ensures { λ r. ⌜ r ≡ stages self ⌝ }
     {
-        if self.kind == 1 {
+        if self.kind == CASCADED {
             (self.pattern_width + 8) / 9
         } else {
             1

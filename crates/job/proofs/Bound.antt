@@ -13,10 +13,10 @@ use borrow.Author.Tests.{ltb-true}
 use Rattle.words.proofs.Rules.{count-most, length-tabulate}
 use Rattle.geometry.specs.declared.Geometry.{Geometry}
 use Rattle.geometry.specs.Valid.{segmented, valid}
-use Rattle.geometry.specs.Sizes.{matchWords, offsetOf}
+use Rattle.geometry.specs.Sizes.{matchWords, setOf, offsetOf}
 use Rattle.geometry.proofs.Facts.{Facts, facts, patterns-most, kind-most}
 use Rattle.geometry.proofs.Bounds.{words-few}
-use Rattle.geometry.proofs.Places.{offset-lt, matches-least}
+use Rattle.geometry.proofs.Places.{length-most, offset-lt, matches-least}
 use Rattle.reference.specs.Calls.{Call, clear, write, erase, read, firstMatch, allMatch, held}
 use Rattle.reference.specs.Refusals.{RefusalRow, _given-when_, firstRefusal}
 use Rattle.reference.specs.Array.{Array, emptied, entryAt, Sound, lowest, counted, matchesOf, arrayRefusals, arrayAccepted, arrayOutcome, arrayStep}
@@ -58,14 +58,14 @@ module _ (g : Geometry) (ok : valid g ≡ true) (shallow : g .depth ≤ 1024) (e
   unfolding counted
   counted-small key = go (lowest-is key 0 es)
     where
-      compared : (a : ℕ) (b : Bool) → cond b (offsetOf g a + 1) 0 < 10 ^ 4
-      compared a true = omega (arith, offset-lt g f a, f .set-most)
-      compared a false = omega arith
+      compared : (a : ℕ) → a < g .depth → (b : Bool) → cond b (offsetOf g a + 1) 0 < 10 ^ 4
+      compared a h true = omega (arith, offset-lt g f a h, length-most g f (setOf g a))
+      compared a h false = omega arith
 
       go : LowestIs key 0 es (lowest key 0 es) → Small (counted g (lowest key 0 es))
       go (at-first i found first) =
           let inside : i < 1024 = omega (arith, first .within, sound .long) in
-          rw (found, zero-add i) (omega arith, omega (arith, div-le-self i (64 * g .«set_width»)), compared i (eqb (g .kind) segmented))
+          rw (found, zero-add i) (omega arith, omega (arith, div-le-self i (64 * g .«set_width»)), compared i (omega (arith, first .within, sound .long)) (eqb (g .kind) segmented))
       go (at-none missing nowhere) = rw missing (omega (arith, words-few g f), omega arith)
 
   accepted-small : (c : Call ℕ) → Small (arrayAccepted g es c .answer)

@@ -14,8 +14,8 @@ use Rattle.report.specs.Lines.{ended, line, entryText, answerItems, answerLine,
 use Rattle.job.specs.Files.{field, headerOf, commandAt, commandsFrom, commandsOutside, badFile, tooLarge, geometryStops, fileStops}
 use Rattle.job.specs.Decoding.{decoded}
 use Rattle.job.specs.Output.{obeyed, arrayCommand, answers, numbered, report, printed, output}
-use Rattle.job.specs.Examples.{Example, bytesOf, linesOf, listing, examples}
+use Rattle.job.specs.Examples.{Example, bytesOf, linesOf, examples}
 
 pub examples-hold : map (λ (e : Example). output (e .file)) examples ≡ map (λ (e : Example). e .prints) examples
-unfolding tabulate word valid patterns sets rowWords matchWords stages stageWidth rows indicatorWords holds firstRefusal badAddress badPattern emptied lowest counted matchesOf hits arrayRefusals arrayAccepted arrayOutcome arrayStep ascii places decimal hexadecimal ended line entryText answerItems answerLine firstLine stopLine field headerOf commandAt commandsFrom commandsOutside badFile tooLarge geometryStops fileStops decoded obeyed arrayCommand answers numbered report printed output bytesOf linesOf listing examples
+unfolding tabulate word valid patterns sets rowWords matchWords stages stageWidth rows indicatorWords holds firstRefusal badAddress badPattern emptied lowest counted matchesOf hits arrayRefusals arrayAccepted arrayOutcome arrayStep ascii places decimal hexadecimal ended line entryText answerItems answerLine firstLine stopLine field headerOf commandAt commandsFrom commandsOutside badFile tooLarge geometryStops fileStops decoded obeyed arrayCommand answers numbered report printed output bytesOf linesOf examples
 examples-hold = refl

@@ -11,14 +11,14 @@ use Rattle.geometry.specs.declared.Geometry.{Geometry}
 use Rattle.geometry.specs.declared.Sizes.{Sizes}
 use Rattle.geometry.specs.Valid.{valid}
 use Rattle.geometry.specs.Checks.{sizesOf}
-use Rattle.reference.specs.Calls.{Call, clear, write, erase, read, firstMatch, allMatch}
+use Rattle.reference.specs.Calls.{Call}
 use Rattle.reference.specs.Refusals.{firstRefusal}
 use Rattle.report.specs.Figures.{Bytes}
 use Rattle.job.specs.declared.Command.{Command}
 use Rattle.job.specs.declared.Opened.{Opened}
 use Rattle.job.specs.declared.Opened.the-variants.{Job, Stopped}
 use Rattle.job.specs.Files.{headerOf, geometryOf, badFile, tooLarge, geometryStops, fileStops, fileStop}
-use Rattle.job.specs.Decoding.{unused, decoded}
+use Rattle.job.specs.Decoding.{asked, decoded}
 use Rattle.job.specs.Read.{Opens}
 
 -- the test of stop 9 as the code makes it, with the sizes at hand
@@ -52,32 +52,14 @@ pub opens-past : (file : Bytes) (o : Opened) → badFile file ≡ false
 opens-past file (Job header sizes) passed known = (file-stops file ∙ rw passed (known .0), known .1)
 opens-past file (Stopped stop) passed known = file-stops file ∙ rw passed known
 
--- what the code gives for an operation, on the address that it has, is the call of the command
+-- a command asks for what its operation does with its fields; the code has its address as `a`
 module _ {x : Option (Call (List ℕ))} (m : List ℕ) (c : Command) where
-  pub asks-write : (a : ℕ) → x ≡ some (write a (c .pattern)) → a ≡ c .address → c .operation ≡ 1 → x ≡ decoded m c
+  pub by-fields : (n a : ℕ) → x ≡ asked n m a (c .pattern) → a ≡ c .address → c .operation ≡ n → x ≡ decoded m c
   unfolding decoded
-  asks-write a gives address e = gives ∙ rw (e, address)
+  by-fields n a gives same e = gives ∙ rw (e, same)
 
-  pub asks-erase : (a : ℕ) → x ≡ unused (c .pattern) (some (erase a)) → a ≡ c .address → c .operation ≡ 2 → x ≡ decoded m c
-  unfolding decoded
-  asks-erase a gives address e = gives ∙ rw (e, address)
-
-  pub asks-first-match : x ≡ unused (c .address) (some (firstMatch (c .pattern))) → c .operation ≡ 3 → x ≡ decoded m c
-  unfolding decoded
-  asks-first-match gives e = gives ∙ rw e
-
-  pub asks-all-match : x ≡ unused (c .address) (some (allMatch (c .pattern) m)) → c .operation ≡ 4 → x ≡ decoded m c
-  unfolding decoded
-  asks-all-match gives e = gives ∙ rw e
-
-  pub asks-read : (a : ℕ) → x ≡ unused (c .pattern) (some (read a)) → a ≡ c .address → c .operation ≡ 5 → x ≡ decoded m c
-  unfolding decoded
-  asks-read a gives address e = gives ∙ rw (e, address)
-
-  pub asks-clear : x ≡ unused (c .pattern) (some clear) → c .address ≡ 0 → c .operation ≡ 6 → x ≡ decoded m c
-  unfolding decoded
-  asks-clear gives address e = gives ∙ rw (e, address)
+  pub by-operation : (n : ℕ) → x ≡ asked n m (c .address) (c .pattern) → c .operation ≡ n → x ≡ decoded m c
+  by-operation n gives e = by-fields n (c .address) gives refl e
 
   pub stray-clear : x ≡ none → c .address ≢ 0 → c .operation ≡ 6 → x ≡ decoded m c
-  unfolding decoded
-  stray-clear gives address e = gives ∙ rw (e, ne-eqb _ _ address)
+  stray-clear gives address e = by-operation 6 (gives ∙ rw (ne-eqb _ _ address)) e

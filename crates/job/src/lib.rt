@@ -3,7 +3,7 @@ use calls::Call;
 use geometry::Checked;
 use geometry::Geometry;
 use geometry::Sizes;
-use geometry::address::Address;
+use places::Address;
 ghost use Prim.Native.Nat.{_+_, _≤_};
 ghost use mathlib.Core.Path.{_≡_};
 ghost use mathlib.Core.Option.{some};

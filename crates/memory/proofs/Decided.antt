@@ -16,7 +16,7 @@ use Rattle.geometry.specs.declared.Checked.{Checked}
 use Rattle.geometry.specs.declared.Checked.the-variants.{Accepted, Refused}
 use Rattle.geometry.specs.Valid.{valid}
 use Rattle.geometry.specs.Sizes.{matchWords}
-use Rattle.geometry.specs.Checks.{numberOf, sizesOf, checked, andRow, tablesFit, checkedTables, checkedMatches, andAddress, andPattern}
+use Rattle.geometry.specs.Checks.{numberOf, sizesOf, checked, andRow, tablesFit, checkedTables, checkedMatches, andPattern}
 use Rattle.geometry.proofs.Acceptance.{never, row-accepted}
 use Rattle.reference.specs.Calls.{Call, allMatch}
 use Rattle.reference.specs.Refusals.{RefusalRow, _given-when_, firstRefusal, badAddress, badPattern}
@@ -69,24 +69,29 @@ module _ {g : Geometry} {t : Tables} {c : Call (List ℕ)} {x : Checked} {rest :
     lent = λ z e. d .lent z (row-accepted x why test z e .0);
   }
 
-  pub address-decides : (a : ℕ) → Decides g t c x (3 given-when badAddress g a ∷ rest) → Decides g t c (andAddress x g a) rest
-  unfolding badAddress
-  address-decides a d = row-decides BadAddress (λ z. leb (g .depth) a) (badAddress g a) (λ z e. refl) d
+  -- y is what the code has after its test, and b whether it finds the address outside
+  module _ {y : Checked} where
+    pub address-decides : (a : ℕ) (b : Bool) → b ≡ leb (g .depth) a → y ≡ andRow x BadAddress (λ z. b) → Decides g t c x (3 given-when badAddress g a ∷ rest)
+        → Decides g t c y rest
+    unfolding badAddress
+    address-decides a b is e d = rw e (row-decides BadAddress (λ z. b) (badAddress g a) (λ z f. is) d)
 
-  pub pattern-decides : (p : ℕ) → Decides g t c x (4 given-when badPattern g p ∷ rest) → Decides g t c (andPattern x p) rest
-  unfolding badPattern
-  pattern-decides p d = row-decides BadPattern (λ z. leb (z .patterns) p) (badPattern g p) (λ z e. rw (d .lent z e .sized .same-patterns)) d
+    pub pattern-decides : (p : ℕ) → y ≡ andPattern x p → Decides g t c x (4 given-when badPattern g p ∷ rest) → Decides g t c y rest
+    unfolding badPattern
+    pattern-decides p e d =
+        rw e (row-decides BadPattern (λ z. leb (z .patterns) p) (badPattern g p) (λ z f. rw (d .lent z f .sized .same-patterns)) d)
 
 -- row 2, of a call with no match word
 pub tables-decide : (g : Geometry) (t : Tables) (c : Call (List ℕ)) → badMatches g c ≡ false
-    → Decides g t c (checkedTables g (length (t .store)) (length (t .indicators))) (ownRefusals g t c)
+    → {x : Checked} → x ≡ checkedTables g (length (t .store)) (length (t .indicators)) → Decides g t c x (ownRefusals g t c)
 unfolding checkedTables badLengths
-tables-decide g t c plain =
+tables-decide g t c plain is =
     let test = not (tablesFit g (length (t .store)) (length (t .indicators))) in
-    record {
+    rw is
+    (record {
       rows = row-more BadLengths (λ z. test) (badLengths g t || badMatches g c) (λ z e. rw plain (sym (or-false test))) (geometry-row g t c);
       lent = λ z e. tables-lent g (length (t .store)) (length (t .indicators)) z e;
-    }
+    })
 
 -- and of all-match, where the code tests it in two parts
 row-twice : (x : Checked) (why : Refusal) (p q : Sizes → Bool) → andRow (andRow x why p) why q ≡ andRow x why (λ z. p z || q z)
@@ -99,15 +104,18 @@ row-twice (Accepted z) why p q = go (p z)
     go false = refl
 
 pub matches-decide : (g : Geometry) (t : Tables) (key : ℕ) (m : List ℕ)
-    → Decides g t (allMatch key m) (checkedMatches g (length (t .store)) (length (t .indicators)) (length m)) (ownRefusals g t (allMatch key m))
+    → {x : Checked} → x ≡ checkedMatches g (length (t .store)) (length (t .indicators)) (length m) → Decides g t (allMatch key m) x (ownRefusals g t (allMatch key m))
 unfolding checkedMatches checkedTables badLengths badMatches
-matches-decide g t key m = record {
-  rows =
-      rw row-twice
-      (row-more BadLengths (λ z. not (tablesFit g (length (t .store)) (length (t .indicators))) || not (eqb (length m) (matchWords g)))
-      (badLengths g t || badMatches g (allMatch key m)) (λ z e. refl) (geometry-row g t (allMatch key m)));
-  lent = λ z e. matches-lent g (length (t .store)) (length (t .indicators)) (length m) z e .0;
-}
+matches-decide g t key m is =
+    rw is
+    (record {
+      rows =
+          rw row-twice
+          (row-more BadLengths (λ z. not (tablesFit g (length (t .store)) (length (t .indicators))) || not (eqb (length m) (matchWords g)))
+          (badLengths g t || badMatches g (allMatch key m)) (λ z e. refl) (geometry-row g t (allMatch key m)));
+      lent = λ z e. matches-lent g (length (t .store)) (length (t .indicators)) (length m) z e .0;
+    })
 
-pub address-inside : (x : Checked) (g : Geometry) (a : ℕ) (z : Sizes) → andAddress x g a ≡ Accepted z → a < g .depth
-address-inside x g a z e = leb-false (g .depth) a (row-accepted x BadAddress (λ z. leb (g .depth) a) z e .1)
+pub address-inside : (x : Checked) (g : Geometry) (a : ℕ) (b : Bool) (z : Sizes) → b ≡ leb (g .depth) a → andRow x BadAddress (λ z. b) ≡ Accepted z
+    → a < g .depth
+address-inside x g a b z is e = leb-false (g .depth) a (sym is ∙ row-accepted x BadAddress (λ z. b) z e .1)

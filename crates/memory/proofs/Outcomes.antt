@@ -73,7 +73,7 @@ first-left g s i key r is = rw is (go (firstFound g (tables s i) key) refl)
     go : (f : Found) → firstFound g (tables s i) key ≡ f
         → record { answer = answerOf f; tables = tables s i; matches = [] } ≡ outcome g (tables s i) (firstMatch key) (firstRefusal (6 given-when isFalse f ∷ []))
     go (hit a w c) e = rw e
-    go (nothing w) e = rw e
+    go (nothing w c) e = rw e
     go falseSet e = refl
 
 -- All-match: row 6, or what is taken, marked on a match word of zeros, and its ones.

@@ -41,7 +41,7 @@ bare-unmatched g t c b = go c b (firstRefusal (refusals g t c))
   where
     found : (f : Found) → isMatched (answerOf f) ≡ false
     found (hit a w n) = refl
-    found (nothing w) = refl
+    found (nothing w n) = refl
     found falseSet = refl
 
     go : (c : calls.Call (List ℕ)) → Bare c → (o : Option ℕ) → isMatched (outcome g t c o .answer) ≡ false
@@ -60,7 +60,7 @@ answer-any (Refused why) m e = refl
 answer-any Cleared m e = refl
 answer-any (Held x) m e = refl
 answer-any (At a w n) m e = refl
-answer-any (None w) m e = refl
+answer-any (None w n) m e = refl
 
 kept-any : (x : calls.Answer) (m : List ℕ) → isMatched x ≡ false → m ≡ matchesAfter x m
 unfolding matchesAfter

@@ -6,9 +6,8 @@ use calls::Entry;
 use geometry::Checked;
 use geometry::Geometry;
 use geometry::Refusal;
-use geometry::address::Address;
-use geometry::address::Offset;
-use geometry::address::SetIndex;
+use places::Address;
+use places::SetIndex;
 ghost use mathlib.Core.Path.{_≡_};
 ghost use mathlib.Core.List.{[]};
 ghost use Rattle.reference.specs.Calls.{clear, write, erase, read, firstMatch, allMatch};
@@ -42,7 +41,7 @@ pub fn write(
     ensures { λ r. ⌜ left r (now (store .exit)) (now (indicators .exit)) [] ≡ step g (tables (now (store .entry)) (now (indicators .entry))) (write (address .0) pattern) ⌝ }
 {
     let checked = g.check_tables(store.len(), indicators.len())
-        .and_address(g, address)
+        .and_row(Refusal::BadAddress, address.is_outside(g))
         .and_pattern(pattern);
     match checked {
         Checked::Accepted(sizes) => update::replace(
@@ -62,7 +61,7 @@ pub fn erase(g: Geometry, store: &mut [u32], indicators: &mut [u64], address: Ad
     ensures { λ r. ⌜ left r (now (store .exit)) (now (indicators .exit)) [] ≡ step g (tables (now (store .entry)) (now (indicators .entry))) (erase (address .0)) ⌝ }
 {
     let checked = g.check_tables(store.len(), indicators.len())
-        .and_address(g, address);
+        .and_row(Refusal::BadAddress, address.is_outside(g));
     match checked {
         Checked::Accepted(sizes) => update::replace(
             g,
@@ -81,10 +80,10 @@ pub fn read(g: Geometry, store: &[u32], indicators: &[u64], address: Address) ->
     ensures { λ r. ⌜ left r (now (store .entry)) (now (indicators .entry)) [] ≡ step g (tables (now (store .entry)) (now (indicators .entry))) (read (address .0)) ⌝ }
 {
     let checked = g.check_tables(store.len(), indicators.len())
-        .and_address(g, address);
+        .and_row(Refusal::BadAddress, address.is_outside(g));
     match checked {
         Checked::Accepted(sizes) => {
-            let word = store[address.number() as usize];
+            let word = address.word(store);
             if calls::is_sound(word, sizes.patterns) {
                 Answer::Held(calls::entry_of(word, sizes.patterns))
             } else {
@@ -136,20 +135,14 @@ pub fn all_match(
 }
 
 // The line of a set: that part of the store itself. A bad geometry, store length or set number gives an empty part.
-pub fn line(g: Geometry, store: &[u32], set: u32) -> &[u32]
-    ensures { λ r. ⌜ HandsBack g (store .entry) r set ⌝ }
+pub fn line(g: Geometry, store: &[u32], set: SetIndex) -> &[u32]
+    ensures { λ r. ⌜ HandsBack g (store .entry) r (set .0) ⌝ }
 {
     let checked = g.check();
     match checked {
         Checked::Accepted(sizes) => {
-            if store.len() == g.depth as usize && (set as usize) < sizes.sets {
-                let first = SetIndex::of_bit((set / 64) as usize, set % 64).address(
-                    Offset::first(),
-                    g,
-                );
-                let from = first.number() as usize;
-                let to = from + g.set_width as usize;
-                return &store[from..to];
+            if store.len() == g.depth as usize && !set.is_outside(sizes) {
+                return set.line(store, g);
             }
             &store[0..0]
         }

@@ -7,7 +7,7 @@ use Rattle.words.specs.Rules.{any, count, member, keep, tabulate}
 use Rattle.words.specs.Bits.{bit, setBit, clearBit, changeBit, rowMask, word, totalOnes}
 use Rattle.words.specs.Seek.{seek}
 use Rattle.geometry.specs.Valid.{valid}
-use Rattle.geometry.specs.Sizes.{patterns, sets, rowWords, matchWords}
+use Rattle.geometry.specs.Sizes.{patterns, sets, rowWords, matchWords, setLength}
 use Rattle.geometry.specs.Stages.{stages, stageWidth, stage, rowOf, rowsOf, rows, indicatorWords}
 use Rattle.reference.specs.Entry.{wordOf, entryOf}
 use Rattle.reference.specs.Calls.{lent}
@@ -20,9 +20,9 @@ use Rattle.reference.specs.History.{run}
 use Rattle.reference.specs.Cases.{Case, cases, Trial, trials}
 
 pub cases-hold : map (λ (r : Case). map (λ (o : Outcome). o .answer) (run (r .geometry) (r .tables) (r .calls))) cases ≡ map (λ (r : Case). r .answers) cases
-unfolding trailingZeros any count member keep tabulate bit setBit clearBit changeBit rowMask word totalOnes seek valid patterns sets rowWords matchWords stages stageWidth stage rowOf rowsOf rows indicatorWords wordOf entryOf firstRefusal badAddress badPattern entryRows covers change othersCover released replaced joined indicated seekWord seekEntry lowestSet isFalse inSet firstFound anyIsFalse answerOf taken takenWords badLengths badMatches badEntry ownRefusals refusals clearTables accepted outcome step run cases
+unfolding trailingZeros any count member keep tabulate bit setBit clearBit changeBit rowMask word totalOnes seek valid patterns sets rowWords matchWords setLength stages stageWidth stage rowOf rowsOf rows indicatorWords wordOf entryOf firstRefusal badAddress badPattern entryRows covers change othersCover released replaced joined indicated seekWord seekEntry lowestSet isFalse inSet firstFound anyIsFalse answerOf taken takenWords badLengths badMatches badEntry ownRefusals refusals clearTables accepted outcome step run cases
 cases-hold = refl
 
 pub trials-hold : map (λ (r : Trial). step (r .geometry) (r .tables) (r .call)) trials ≡ map (λ (r : Trial). r .leaves) trials
-unfolding trailingZeros any count member keep tabulate bit setBit clearBit changeBit rowMask word totalOnes seek valid patterns sets rowWords matchWords stages stageWidth stage rowOf rowsOf rows indicatorWords wordOf entryOf firstRefusal badAddress badPattern entryRows covers change othersCover released replaced joined indicated seekWord seekEntry lowestSet isFalse inSet firstFound anyIsFalse answerOf taken takenWords badLengths badMatches badEntry ownRefusals refusals clearTables accepted outcome step lent trials
+unfolding trailingZeros any count member keep tabulate bit setBit clearBit changeBit rowMask word totalOnes seek valid patterns sets rowWords matchWords setLength stages stageWidth stage rowOf rowsOf rows indicatorWords wordOf entryOf firstRefusal badAddress badPattern entryRows covers change othersCover released replaced joined indicated seekWord seekEntry lowestSet isFalse inSet firstFound anyIsFalse answerOf taken takenWords badLengths badMatches badEntry ownRefusals refusals clearTables accepted outcome step lent trials
 trials-hold = refl

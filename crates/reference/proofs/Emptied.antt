@@ -10,7 +10,7 @@ use Rattle.words.specs.Rules.{member}
 use Rattle.words.proofs.Rules.{any-false, list-tabulate}
 use Rattle.words.proofs.Bits.{bits-equal, bit-zero, bit-word-all}
 use Rattle.geometry.specs.declared.Geometry.{Geometry}
-use Rattle.geometry.specs.Sizes.{rowWords, addressOf}
+use Rattle.geometry.specs.Sizes.{rowWords, addressOf, setLength}
 use Rattle.geometry.specs.Stages.{indicatorWords}
 use Rattle.reference.specs.Entry.{empty, emptyWord, wordOf}
 use Rattle.reference.specs.Array.{emptied, entryAt, Sound}
@@ -41,7 +41,7 @@ map-replicate (suc n) = ap (λ (l : List ℕ). emptyWord ∷ l) (map-replicate n
 -- no entry covers a row
 not-covered : (g : Geometry) (r s : ℕ) → covered g (entryAt (emptied g)) r s ≡ false
 unfolding covered covers entryRows member
-not-covered g r s = any-false (g .«set_width») _ (λ o l. rw (entry-of-emptied g (addressOf g s o)))
+not-covered g r s = any-false (setLength g s) _ (λ o l. rw (entry-of-emptied g (addressOf g s o)))
 
 zeros : (g : Geometry) → replicate (indicatorWords g) 0 ≡ image g (emptied g)
 unfolding image

@@ -14,7 +14,7 @@ use Rattle.words.specs.Bits.{bit}
 use Rattle.words.proofs.Rules.{both-ways, any-ext, any-split, length-tabulate, getD-tabulate, list-tabulate}
 use Rattle.words.proofs.Bits.{bits-equal, bit-word-all}
 use Rattle.geometry.specs.declared.Geometry.{Geometry}
-use Rattle.geometry.specs.Sizes.{rowWords, setOf, offsetOf, addressOf}
+use Rattle.geometry.specs.Sizes.{rowWords, setOf, offsetOf, addressOf, setLength}
 use Rattle.geometry.specs.Stages.{rows, indicatorWords}
 use Rattle.geometry.proofs.Facts.{Facts}
 use Rattle.geometry.proofs.Places.{offset-lt, address-of, set-of, offset-of, place-lt, row-of-place, word-of-place, place-of, row-lt, word-lt, word-lt-row}
@@ -84,10 +84,10 @@ module _ (g : Geometry) (f : Facts g) (es : Array) (sound : Sound g es) where
 
     -- the other addresses of a's set
     others : ℕ → Bool
-    others r = any (g .«set_width») (λ o. not (eqb o (offsetOf g a)) && covers g (entryAt es (addressOf g (setOf g a) o)) r)
+    others r = any (setLength g (setOf g a)) (λ o. not (eqb o (offsetOf g a)) && covers g (entryAt es (addressOf g (setOf g a) o)) r)
 
     -- an offset of a's set is a's exactly when its address is a
-    same-offset : (o : ℕ) → o < g .«set_width» → eqb (addressOf g (setOf g a) o) a ≡ eqb o (offsetOf g a)
+    same-offset : (o : ℕ) → o < setLength g (setOf g a) → eqb (addressOf g (setOf g a) o) a ≡ eqb o (offsetOf g a)
     same-offset o h =
         both-ways _ _
         (λ x. eq-eqb o (offsetOf g a) (sym (offset-of g f (setOf g a) o h) ∙ ap (offsetOf g) (eqb-true _ _ x)))
@@ -95,17 +95,17 @@ module _ (g : Geometry) (f : Facts g) (es : Array) (sound : Sound g es) where
 
     others-cover : (r : ℕ) → othersCover g (tablesOf g es) a r ≡ others r
     unfolding othersCover others
-    others-cover r = any-ext (g .«set_width») _ _ (λ o h. rw (same-offset o h, store-entry (addressOf g (setOf g a) o)))
+    others-cover r = any-ext (setLength g (setOf g a)) _ _ (λ o h. rw (same-offset o h, store-entry (addressOf g (setOf g a) o)))
 
     before : (r : ℕ) → covered g (entryAt es) r (setOf g a) ≡ (covers g (entryAt es a) r || others r)
     unfolding covered others
-    before r = any-split (g .«set_width») _ (offsetOf g a) (offset-lt g f a) ∙ rw (address-of g f a)
+    before r = any-split (setLength g (setOf g a)) _ (offsetOf g a) (offset-lt g f a inside) ∙ rw (address-of g f a)
 
     after : (r : ℕ) → covered g (entryAt next) r (setOf g a) ≡ (covers g e r || others r)
     unfolding covered others
-    after r = any-split (g .«set_width») _ (offsetOf g a) (offset-lt g f a) ∙ rw (address-of g f a, at-a) (ap (λ x. covers g e r || x) (any-ext (g .«set_width») _ _ (λ o h. kept o h (eqb o (offsetOf g a)) refl)))
+    after r = any-split (setLength g (setOf g a)) _ (offsetOf g a) (offset-lt g f a inside) ∙ rw (address-of g f a, at-a) (ap (λ x. covers g e r || x) (any-ext (setLength g (setOf g a)) _ _ (λ o h. kept o h (eqb o (offsetOf g a)) refl)))
       where
-        kept : (o : ℕ) → o < g .«set_width» → (b : Bool) → eqb o (offsetOf g a) ≡ b
+        kept : (o : ℕ) → o < setLength g (setOf g a) → (b : Bool) → eqb o (offsetOf g a) ≡ b
             → (not b && covers g (entryAt next (addressOf g (setOf g a) o)) r) ≡ (not b && covers g (entryAt es (addressOf g (setOf g a) o)) r)
         kept o h true q = refl
         kept o h false q =
@@ -115,7 +115,7 @@ module _ (g : Geometry) (f : Facts g) (es : Array) (sound : Sound g es) where
     -- the other sets
     apart : (r u : ℕ) → (u ≡ setOf g a → ⊥) → covered g (entryAt es) r u ≡ covered g (entryAt next) r u
     unfolding covered
-    apart r u ne = any-ext (g .«set_width») _ _ (λ o h. ap (λ x. covers g x r) (sym (elsewhere (addressOf g u o) (λ q. ne (sym (set-of g f u o h) ∙ ap (setOf g) q)))))
+    apart r u ne = any-ext (setLength g u) _ _ (λ o h. ap (λ x. covers g x r) (sym (elsewhere (addressOf g u o) (λ q. ne (sym (set-of g f u o h) ∙ ap (setOf g) q)))))
 
     -- the bit of each row, word and place: in a's set by what each entry covers, elsewhere as it was
     same-bit : (r j b : ℕ) → r < rows g → j < rowWords g

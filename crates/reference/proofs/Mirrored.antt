@@ -15,9 +15,9 @@ use Rattle.words.proofs.Rules.{both-ways, refuted, any-witness, any-true, none-
 use Rattle.words.proofs.Bits.{word-ext}
 use Rattle.geometry.specs.declared.Geometry.{Geometry}
 use Rattle.geometry.specs.Valid.{valid, segmented}
-use Rattle.geometry.specs.Sizes.{patterns, sets, matchWords, setOf, offsetOf, addressOf}
+use Rattle.geometry.specs.Sizes.{patterns, sets, matchWords, setOf, offsetOf, addressOf, setLength}
 use Rattle.geometry.proofs.Facts.{Facts, facts, patterns-most}
-use Rattle.geometry.proofs.Places.{set-lt, offset-lt, address-lt, address-of, set-of, offset-of, alone-address, below-address, word-of}
+use Rattle.geometry.proofs.Places.{set-lt, offset-lt, address-lt, address-of, set-of, offset-of, length-alone, alone-address, alone-set, below-address, word-of}
 use Rattle.reference.specs.Entry.{emptyWord}
 use Rattle.reference.specs.Calls.{firstMatch, allMatch, Answer, matched}
 use Rattle.reference.specs.Tables.{Tables, storeWord}
@@ -35,8 +35,8 @@ module _ (g : Geometry) (f : Facts g) (t : Tables) (mirrors : Mirrors g t) (key 
   heldAt s o = held (addressOf g s o)
 
   -- a set that is indicated has an address that holds the key
-  witness : (s : ℕ) → indicated g t key s ≡ true → (o : ℕ) × (o < g .«set_width») × (heldAt s o ≡ true)
-  witness s h = any-witness (g .«set_width») (heldAt s) (sym (indicated-is g f t mirrors key small s (indicated-means g t key s .0 h .0)) ∙ h)
+  witness : (s : ℕ) → indicated g t key s ≡ true → (o : ℕ) × (o < setLength g s) × (heldAt s o ≡ true)
+  witness s h = any-witness (setLength g s) (heldAt s) (sym (indicated-is g f t mirrors key small s (indicated-means g t key s .0 h .0)) ∙ h)
 
   -- so it is not false
   no-false-set : (s : ℕ) → indicated g t key s ≡ true → NoEqual g t key s → ⊥
@@ -46,10 +46,10 @@ module _ (g : Geometry) (f : Facts g) (t : Tables) (mirrors : Mirrors g t) (key 
   not-held : (a : ℕ) → a < g .depth → indicated g t key (setOf g a) ≡ false → held a ≡ false
   not-held a l h =
       rw (address-of g f a) at
-      (none-of-any (g .«set_width») (heldAt (setOf g a)) (sym (indicated-is g f t mirrors key small (setOf g a) (set-lt g f a l)) ∙ h) (offsetOf g a) (offset-lt g f a))
+      (none-of-any (setLength g (setOf g a)) (heldAt (setOf g a)) (sym (indicated-is g f t mirrors key small (setOf g a) (set-lt g f a l)) ∙ h) (offsetOf g a) (offset-lt g f a l))
 
   -- the first place of the first indicated set is the first address of all
-  first-address : (s o : ℕ) → First (sets g) (indicated g t key) s → First (g .«set_width») (heldAt s) o → First (g .depth) held (addressOf g s o)
+  first-address : (s o : ℕ) → First (sets g) (indicated g t key) s → First (setLength g s) (heldAt s) o → First (g .depth) held (addressOf g s o)
   first-address s o first place = record {
     within = inside;
     here = place .here;
@@ -71,11 +71,9 @@ module _ (g : Geometry) (f : Facts g) (t : Tables) (mirrors : Mirrors g t) (key 
       (rw (kind, word-of g f (addressOf g s o), set-of g f s o (place .within), offset-of g f s o (place .within)) e)
   first-is answer (set-alone s first kind e) =
       let w = witness s (first .here) in
-      let one : g .«set_width» ≡ 1 = f .alone kind in
-      let same : addressOf g s (w .0) ≡ s = alone-address g f s (w .0) one (w .1) in
-      let in-s : setOf g s ≡ s = rw same at (set-of g f s (w .0) (w .1)) in
-      let place : First (g .«set_width») (heldAt s) (w .0) = record { within = w .1; here = w .2; none-before = λ j l. absurd (omega (arith, w .1)) } in
-      lowest s (rw same at (first-address s (w .0) first place)) (rw (kind, word-of g f s, in-s) e)
+      let same : addressOf g s (w .0) ≡ s = alone-address g f s (w .0) kind (w .1) in
+      let place : First (setLength g s) (heldAt s) (w .0) = record { within = w .1; here = w .2; none-before = λ j l. absurd (omega (arith, w .1, length-alone g f s kind)) } in
+      lowest s (rw same at (first-address s (w .0) first place)) (rw (kind, word-of g f s, alone-set g f s kind) e)
   first-is answer (FirstOnAny.no-equal s first none-equal e) = absurd (no-false-set s (first .here) none-equal)
 
   pub first-not-false : isFalse (firstFound g t key) ≡ false
@@ -92,21 +90,22 @@ module _ (g : Geometry) (f : Facts g) (t : Tables) (mirrors : Mirrors g t) (key 
 
   -- an address is taken by all-match exactly when it holds the key
   pub taken-is : (a : ℕ) → taken g t key a ≡ held a
-  taken-is a = both-ways (taken g t key a) (held a) (λ h. let p = taken-means g t key a .0 h in right (p .0) (eqb (g .kind) segmented) refl (p .1)) (λ h. left h (ltb a (g .depth)) refl)
+  taken-is a = both-ways (taken g t key a) (held a) (λ h. let p = taken-means g t key a .0 h in right (p .1) (eqb (g .kind) segmented) refl (p .2)) (λ h. left h (ltb a (g .depth)) refl)
     where
       -- where sets have one address, an indicated set is that address
       right : indicated g t key (setOf g a) ≡ true → (b : Bool) → eqb (g .kind) segmented ≡ b → (b ≡ true → storeWord t a ≡ key) → held a ≡ true
       right h true e equal = eq-eqb (storeWord t a) key (equal refl)
       right h false e equal =
           let w = witness (setOf g a) h in
-          let only : w .0 ≡ offsetOf g a = omega (arith, f .alone e, w .1, offset-lt g f a) in
-          rw (only, address-of g f a) at (w .2)
+          rw (alone-address g f (setOf g a) (w .0) e (w .1) ∙ alone-set g f a e) at (w .2)
 
       left : held a ≡ true → (b : Bool) → ltb a (g .depth) ≡ b → taken g t key a ≡ true
       left h true e =
-          let inside = set-lt g f a (ltb-true a (g .depth) e) in
+          let inside = ltb-true a (g .depth) e in
           taken-means g t key a .1 (
-            indicated-is g f t mirrors key small (setOf g a) inside ∙ any-true (g .«set_width») (heldAt (setOf g a)) (offsetOf g a) (offset-lt g f a) (rw (address-of g f a) h),
+            inside,
+            indicated-is g f t mirrors key small (setOf g a) (set-lt g f a inside)
+                ∙ any-true (setLength g (setOf g a)) (heldAt (setOf g a)) (offsetOf g a) (offset-lt g f a inside) (rw (address-of g f a) h),
             λ _. eqb-true (storeWord t a) key h,
           )
       left h false e = absurd (false≢true (sym (held-past a (ltb-false a (g .depth) e)) ∙ h))

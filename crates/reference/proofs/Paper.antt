@@ -12,11 +12,11 @@ use Rattle.words.specs.Rules.{any, member}
 use Rattle.words.specs.Bits.{bit}
 use Rattle.words.proofs.Rules.{both-ways, any-ext, any-false}
 use Rattle.geometry.specs.declared.Geometry.{Geometry}
-use Rattle.geometry.specs.Valid.{valid, cascaded}
-use Rattle.geometry.specs.Sizes.{patterns, sets, rowWords, setOf, offsetOf, addressOf}
+use Rattle.geometry.specs.Valid.{valid, cascaded, segmented}
+use Rattle.geometry.specs.Sizes.{patterns, sets, rowWords, setOf, addressOf, setLength}
 use Rattle.geometry.specs.Stages.{stages, stageWidth, stage, rowOf, rowsOf, rows}
 use Rattle.geometry.proofs.Facts.{Facts, facts}
-use Rattle.geometry.proofs.Places.{offset-lt, address-past, address-of, word-lt}
+use Rattle.geometry.proofs.Places.{address-past, alone-address, alone-set, word-lt}
 use Rattle.geometry.proofs.Stages.{row-lt, row-among, one-stage-kind, one-row, one-stage}
 use Rattle.reference.specs.Entry.{Entry, empty, pattern, Fits, holds}
 use Rattle.reference.specs.Calls.{write, erase, held}
@@ -41,7 +41,7 @@ stage-starts g ind p k j b = ap (λ m. bit (getD ind m 0) b) (omega arith)
 uncovered : (g : Geometry) → Facts g → (es : Array) → Sound g es → (r s : ℕ) → sets g ≤ s → covered g (entryAt es) r s ≡ false
 unfolding covered covers entryRows member
 uncovered g f es sound r s past =
-    any-false (g .«set_width») _
+    any-false (setLength g s) _
     (λ o l. rw (List·getD-eq-default es empty {n = addressOf g s o} (rw (sound .long) (address-past g f s o past))))
 
 -- "Spare bits are 0."
@@ -77,11 +77,11 @@ module _ (g : Geometry) (ok : valid g ≡ true) (kind : eqb (g .kind) cascaded �
 
   -- "the bit of row p and set s is 1 exactly when some address in set s holds p"
   pub image-pattern : (es : Array) → Sound g es → (p s : ℕ) → p < patterns g → s < sets g
-      → cell g (image g es) p (s / 64) (s % 64) ≡ any (g .«set_width») (λ o. holds (entryAt es (addressOf g s o)) p)
+      → cell g (image g es) p (s / 64) (s % 64) ≡ any (setLength g s) (λ o. holds (entryAt es (addressOf g s o)) p)
   unfolding covered holds
   image-pattern es sound p s hp hs =
       image-bit g ok es sound p s inside hs
-      ∙ any-ext (g .«set_width») _ _ (λ o l. covers-pattern (entryAt es (addressOf g s o)) (sound .fits (addressOf g s o)) p)
+      ∙ any-ext (setLength g s) _ _ (λ o l. covers-pattern (entryAt es (addressOf g s o)) (sound .fits (addressOf g s o)) p)
     where
       inside : p < rows g
       inside = covers-lt g (facts g ok) (pattern p) p (covers-pattern (pattern p) (pattern-fits g p hp) p ∙ eq-eqb p p refl)
@@ -94,7 +94,7 @@ module _ (g : Geometry) (ok : valid g ≡ true) (kind : eqb (g .kind) cascaded �
     where
       others : othersCover g t a r ≡ othersHold g t a r
       others =
-          any-ext (g .«set_width») _ _
+          any-ext (setLength g (setOf g a)) _ _
           (λ o l. ap (λ x. not (eqb (addressOf g (setOf g a) o) a) && x) (covers-pattern (storeEntry g t (addressOf g (setOf g a) o)) (word-fits g (storeWord t (addressOf g (setOf g a) o))) r))
 
   pub write-patterns : (t : Tables) (a p : ℕ) (e : Entry) → step g t (write a p) .answer ≡ held e → PatternBits g t (step g t (write a p) .tables) a (pattern p)
@@ -117,11 +117,11 @@ module _ (g : Geometry) (ok : valid g ≡ true) (kind : eqb (g .kind) cascaded �
 
   -- "of row p_k in slice k": 1 exactly when some address in set s "holds a pattern whose slice k is p_k"
   pub image-stage : (es : Array) → Sound g es → (k x s : ℕ) → k < stages g → x < 2 ^ stageWidth g k → s < sets g
-      → cell g (image g es) (512 * k + x) (s / 64) (s % 64) ≡ any (g .«set_width») (λ o. holdsStage g k x (entryAt es (addressOf g s o)))
+      → cell g (image g es) (512 * k + x) (s / 64) (s % 64) ≡ any (setLength g s) (λ o. holdsStage g k x (entryAt es (addressOf g s o)))
   unfolding covered
   image-stage es sound k x s hk hx hs =
       image-bit g ok es sound (512 * k + x) s (row-lt g (facts g ok) k x hk hx) hs
-      ∙ any-ext (g .«set_width») _ _ (λ o l. covers-stage (entryAt es (addressOf g s o)) k x hk hx)
+      ∙ any-ext (setLength g s) _ _ (λ o l. covers-stage (entryAt es (addressOf g s o)) k x hk hx)
 
   stage-bits : (t u : Tables) (a : ℕ) (e : Entry) → EveryBit g t u a e → StageBits g t u a e
   unfolding othersCover
@@ -130,14 +130,14 @@ module _ (g : Geometry) (ok : valid g ≡ true) (kind : eqb (g .kind) cascaded �
       ∙ rw (covers-stage e k x hk hx, covers-stage (storeEntry g t a) k x hk hx, alone, and-true (holdsStage g k x (storeEntry g t a)))
     where
       alone : othersCover g t a (512 * k + x) ≡ false
-      alone = any-false (g .«set_width») _ (λ o l. itself o l)
+      alone = any-false (setLength g (setOf g a)) _ (λ o l. itself o l)
         where
-          itself : (o : ℕ) → o < g .«set_width»
+          itself : (o : ℕ) → o < setLength g (setOf g a)
               → (not (eqb (addressOf g (setOf g a) o) a) && covers g (storeEntry g t (addressOf g (setOf g a) o)) (512 * k + x)) ≡ false
           itself o l =
-              let one : g .«set_width» ≡ 1 = facts g ok .alone (rw (eqb-true (g .kind) cascaded kind)) in
-              let only : o ≡ offsetOf g a = omega (arith, offset-lt g (facts g ok) a) in
-              rw (eq-eqb (addressOf g (setOf g a) o) a (rw only (address-of g (facts g ok) a)))
+              let f = facts g ok in
+              let plain : eqb (g .kind) segmented ≡ false = rw (eqb-true (g .kind) cascaded kind) in
+              rw (eq-eqb (addressOf g (setOf g a) o) a (alone-address g f (setOf g a) o plain l ∙ alone-set g f a plain))
 
   pub write-stages : (t : Tables) (a p : ℕ) (e : Entry) → step g t (write a p) .answer ≡ held e → StageBits g t (step g t (write a p) .tables) a (pattern p)
   write-stages t a p e h = stage-bits t _ a (pattern p) (write-bits g t a p e h)

@@ -65,7 +65,7 @@ isNumber (matched ws n) = false
 found-no-number : (x : Found) → isFalse x ≡ false → isNumber (answerOf x) ≡ false
 unfolding isFalse answerOf
 found-no-number (hit a w c) h = refl
-found-no-number (nothing w) h = refl
+found-no-number (nothing w c) h = refl
 found-no-number falseSet h = h
 
 accepted-no-number : (g : Geometry) (t : Tables) (c : Call (List ℕ)) → Passed (ownRefusals g t c) → isNumber (accepted g t c .answer) ≡ false
@@ -112,7 +112,7 @@ passed-lengths g t c p = lengths-pass g t .0 (first-half (badLengths g t) (badMa
 found-no-matches : (x : Found) (m : List ℕ) → matchesAfter (answerOf x) m ≡ m
 unfolding answerOf matchesAfter
 found-no-matches (hit a w c) m = refl
-found-no-matches (nothing w) m = refl
+found-no-matches (nothing w c) m = refl
 found-no-matches falseSet m = refl
 
 -- the match word after any call is the one in its answer, or as it was lent

@@ -18,10 +18,10 @@ use Rattle.words.proofs.Bits.{bit-and, bit-mask, mask-lt, ones-of-rule}
 use Rattle.words.proofs.Seek.{seek-found, seek-missed, row-word, row-first, row-nowhere}
 use Rattle.geometry.specs.declared.Geometry.{Geometry}
 use Rattle.geometry.specs.Valid.{valid, segmented}
-use Rattle.geometry.specs.Sizes.{patterns, sets, rowWords, matchWords, setOf, addressOf}
+use Rattle.geometry.specs.Sizes.{patterns, sets, rowWords, matchWords, setOf, addressOf, setLength}
 use Rattle.geometry.specs.Stages.{stages, rowOf, rowsOf, indicatorWords}
 use Rattle.geometry.proofs.Facts.{Facts, facts}
-use Rattle.geometry.proofs.Places.{sets-most, set-past, matches-most}
+use Rattle.geometry.proofs.Places.{sets-most, matches-most}
 use Rattle.reference.specs.Calls.{firstMatch, allMatch, none, refused, matched}
 use Rattle.reference.specs.Refusals.{_given-when_, firstRefusal}
 use Rattle.reference.specs.Tables.{Tables, storeWord, cell}
@@ -95,13 +95,13 @@ module _ (g : Geometry) (t : Tables) (key : ℕ) where
   equalAt s o = stores t key (addressOf g s o)
 
   -- the comparison of a set's entries finds the first that is equal, and has looked at it and all before it
-  entry-found : (s o c : ℕ) → seekEntry g t key s ≡ found o c → First (g .«set_width») (equalAt s) o × (c ≡ o + 1)
+  entry-found : (s o c : ℕ) → seekEntry g t key s ≡ found o c → First (setLength g s) (equalAt s) o × (c ≡ o + 1)
   unfolding seekEntry
-  entry-found s o c e = seek-found (g .«set_width») (equalAt s) o c e
+  entry-found s o c e = seek-found (setLength g s) (equalAt s) o c e
 
-  entry-missed : (s c : ℕ) → seekEntry g t key s ≡ missed c → Nowhere (g .«set_width») (equalAt s)
+  entry-missed : (s c : ℕ) → seekEntry g t key s ≡ missed c → Nowhere (setLength g s) (equalAt s)
   unfolding seekEntry
-  entry-missed s c e = seek-missed (g .«set_width») (equalAt s) c e .0
+  entry-missed s c e = seek-missed (setLength g s) (equalAt s) c e .0
 
   -- a set is false exactly when it has no equal entry
   pub false-means : (s w : ℕ) → (isFalse (inSet g t key s w) ≡ true) ↔ NoEqual g t key s
@@ -150,7 +150,7 @@ pub first-any : (g : Geometry) → Facts g → (t : Tables) (key : ℕ) → Firs
 unfolding firstFound answerOf
 first-any g f t key = go (seekWord g t key) refl
   where
-    go : (r : Sought) → seekWord g t key ≡ r → FirstOnAny g t key (answerOf (elim r [ found j w ↦ inSet g t key (lowestSet g t key j) w | missed w ↦ nothing w ]))
+    go : (r : Sought) → seekWord g t key ≡ r → FirstOnAny g t key (answerOf (elim r [ found j w ↦ inSet g t key (lowestSet g t key j) w | missed w ↦ nothing w 0 ]))
     go (missed w) e = let p = words-missed g f t key w e in no-set (p .0) (ap (λ n. none n 0) (p .1))
     go (found j w) e = let p = words-found g t key j w e in in-set g t key (lowestSet g t key j) w (p .0) (p .1)
 
@@ -162,7 +162,7 @@ unfolding firstFound isFalse
 first-false-means g f t key = (there (seekWord g t key) refl, back (seekWord g t key) refl)
   where
     searched : Sought → Found
-    searched r = elim r [ found j w ↦ inSet g t key (lowestSet g t key j) w | missed w ↦ nothing w ]
+    searched r = elim r [ found j w ↦ inSet g t key (lowestSet g t key j) w | missed w ↦ nothing w 0 ]
 
     there : (r : Sought) → seekWord g t key ≡ r → isFalse (searched r) ≡ true → (s : ℕ) × First (sets g) (indicated g t key) s × NoEqual g t key s
     there (found j w) e h = (lowestSet g t key j, words-found g t key j w e .0, false-means g t key (lowestSet g t key j) w .0 h)
@@ -188,11 +188,11 @@ any-false-means g t key = (λ h. there (any-witness (sets g) _ h), back)
 
 -- ---- the addresses that all-match takes
 
--- "every indicated set, and in kind 2 every equal entry in it"
+-- those of every indicated set, in kind 2 the equal ones in it
 pub taken-means : (g : Geometry) (t : Tables) (key a : ℕ)
-    → (taken g t key a ≡ true) ↔ ((indicated g t key (setOf g a) ≡ true) × (eqb (g .kind) segmented ≡ true → storeWord t a ≡ key))
+    → (taken g t key a ≡ true) ↔ ((a < g .depth) × (indicated g t key (setOf g a) ≡ true) × (eqb (g .kind) segmented ≡ true → storeWord t a ≡ key))
 unfolding taken
-taken-means g t key a = (λ h. let p = and-eq-true-iff _ _ .0 h in (p .0, compared (eqb (g .kind) segmented) (p .1)), λ p. and-eq-true-iff _ _ .1 (p .0, either (eqb (g .kind) segmented) (p .1)))
+taken-means g t key a = (there, back)
   where
     compared : (b : Bool) → (not b || eqb (storeWord t a) key) ≡ true → b ≡ true → storeWord t a ≡ key
     compared true h e = eqb-true (storeWord t a) key h
@@ -202,10 +202,19 @@ taken-means g t key a = (λ h. let p = and-eq-true-iff _ _ .0 h in (p .0, compar
     either true h = eq-eqb (storeWord t a) key (h refl)
     either false h = refl
 
+    there : taken g t key a ≡ true → (a < g .depth) × (indicated g t key (setOf g a) ≡ true) × (eqb (g .kind) segmented ≡ true → storeWord t a ≡ key)
+    there h =
+        let p = and-eq-true-iff _ _ .0 h in
+        let q = and-eq-true-iff _ _ .0 (p .1) in
+        (ltb-true a (g .depth) (q .0), p .0, compared (eqb (g .kind) segmented) (q .1))
+
+    back : (a < g .depth) × (indicated g t key (setOf g a) ≡ true) × (eqb (g .kind) segmented ≡ true → storeWord t a ≡ key) → taken g t key a ≡ true
+    back (inside, indicates, equal) =
+        and-eq-true-iff _ _ .1 (indicates, and-eq-true-iff _ _ .1 (lt-ltb a (g .depth) inside, either (eqb (g .kind) segmented) equal))
+
 -- no address past the depth is taken
-taken-past : (g : Geometry) → Facts g → (t : Tables) (key a : ℕ) → g .depth ≤ a → taken g t key a ≡ false
-taken-past g f t key a past =
-    refuted (taken g t key a) (λ h. omega (arith, indicated-means g t key (setOf g a) .0 (taken-means g t key a .0 h .0) .0, set-past g f a past))
+taken-past : (g : Geometry) (t : Tables) (key a : ℕ) → g .depth ≤ a → taken g t key a ≡ false
+taken-past g t key a past = refuted (taken g t key a) (λ h. omega (arith, taken-means g t key a .0 h .0))
 
 -- the ones in the word of those taken are as many as they are
 pub taken-counted : (g : Geometry) → Facts g → (t : Tables) (key : ℕ) → totalOnes (takenWords g t key) ≡ count (g .depth) (taken g t key)
@@ -215,14 +224,14 @@ taken-counted g f t key =
     ones-of-rule (matchWords g) (taken g t key)
     ∙ ap (λ n. count n (taken g t key)) (sym whole)
     ∙ count-add (g .depth) (64 * matchWords g - g .depth) (taken g t key)
-    ∙ rw (count-none (64 * matchWords g - g .depth) _ (λ i l. taken-past g f t key (g .depth + i) (le-add-right (g .depth) i))) (add-zero _)
+    ∙ rw (count-none (64 * matchWords g - g .depth) _ (λ i l. taken-past g t key (g .depth + i) (le-add-right (g .depth) i))) (add-zero _)
 
 -- ---- the two calls
 
 false-answer : (x : Found) → isFalse x ≡ true → answerOf x ≡ refused 6
 unfolding isFalse answerOf
 false-answer (hit a w c) h = absurd (false≢true h)
-false-answer (nothing w) h = absurd (false≢true h)
+false-answer (nothing w c) h = absurd (false≢true h)
 false-answer falseSet h = refl
 
 -- A geometry, tables of its lengths and a pattern of it: nothing else is asked.

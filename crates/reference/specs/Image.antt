@@ -5,7 +5,7 @@ use mathlib.Core.List.{List, [], map}
 use Rattle.words.specs.Rules.{any, member, tabulate}
 use Rattle.words.specs.Bits.{word}
 use Rattle.geometry.specs.declared.Geometry.{Geometry}
-use Rattle.geometry.specs.Sizes.{rowWords, addressOf}
+use Rattle.geometry.specs.Sizes.{rowWords, addressOf, setLength}
 use Rattle.geometry.specs.Stages.{rowsOf, indicatorWords}
 use Rattle.reference.specs.Entry.{Entry, empty, pattern, wordOf}
 use Rattle.reference.specs.Array.{Array, entryAt}
@@ -21,7 +21,7 @@ covers g e r = member r (entryRows g e)
 
 -- Whether some address of the set has an entry that covers the row, where `entry` gives each address its entry.
 unfoldable pub covered : Geometry → (entry : ℕ → Entry) → (row set : ℕ) → Bool
-covered g entry r s = any (g .«set_width») (λ o. covers g (entry (addressOf g s o)) r)
+covered g entry r s = any (setLength g s) (λ o. covers g (entry (addressOf g s o)) r)
 
 -- Word j of row r is number R × r + j; bit b of it belongs to set 64 × j + b. Past the last set there is no address and
 -- so no entry: padding bits (document 01: spare bits) are 0.

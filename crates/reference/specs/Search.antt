@@ -2,7 +2,7 @@
 use Prim.Native.Nat.{ℕ, _+_, _*_, _/_, _%_}
 use mathlib.Core.Bool.{Bool, true, false, not, _&&_, _||_}
 use mathlib.Core.List.{List, foldr}
-use lib.Dec.{eqb}
+use lib.Dec.{eqb, ltb}
 use lib.Bits.{bitAnd}
 use lib.Count.{trailingZeros}
 use lib.ListN.{getD}
@@ -11,7 +11,7 @@ use Rattle.words.specs.Bits.{bit, rowMask, word}
 use Rattle.words.specs.Seek.{Sought, found, missed, seek}
 use Rattle.geometry.specs.declared.Geometry.{Geometry}
 use Rattle.geometry.specs.Valid.{segmented}
-use Rattle.geometry.specs.Sizes.{sets, rowWords, matchWords, setOf, addressOf}
+use Rattle.geometry.specs.Sizes.{sets, rowWords, matchWords, setOf, addressOf, setLength}
 use Rattle.geometry.specs.Stages.{rowsOf}
 use Rattle.reference.specs.Calls.{Answer, refused, at, none}
 use Rattle.reference.specs.Tables.{Tables, storeWord}
@@ -29,7 +29,7 @@ seekWord g t key = seek (λ j. not (eqb (joined g t key j) 0)) (rowWords g) 0 0
 
 -- The entries of a set, "ascending in the indicated set up to the equal one".
 unfoldable pub seekEntry : Geometry → Tables → (key set : ℕ) → Sought
-seekEntry g t key s = seek (λ o. eqb (storeWord t (addressOf g s o)) key) (g .«set_width») 0 0
+seekEntry g t key s = seek (λ o. eqb (storeWord t (addressOf g s o)) key) (setLength g s) 0 0
 
 -- "The lowest set bit names the set."
 unfoldable pub lowestSet : Geometry → Tables → (key j : ℕ) → ℕ
@@ -39,12 +39,12 @@ lowestSet g t key j = 64 * j + trailingZeros 64 (joined g t key j)
 -- key.
 pub data Found : Type 0 where
   hit : (address words-read entries-compared : ℕ) → Found
-  nothing : (words-read : ℕ) → Found
+  nothing : (words-read entries-compared : ℕ) → Found
   falseSet : Found
 
 unfoldable pub isFalse : Found → Bool
 isFalse (hit a w c) = false
-isFalse (nothing w) = false
+isFalse (nothing w c) = false
 isFalse falseSet = true
 
 -- "In kind 2 the entries of that set are compared; in the others the set is the address."
@@ -56,7 +56,7 @@ inSet g t key s w =
     ]
 
 unfoldable pub firstFound : Geometry → Tables → (key : ℕ) → Found
-firstFound g t key = elim (seekWord g t key) [ found j w ↦ inSet g t key (lowestSet g t key j) w | missed w ↦ nothing w ]
+firstFound g t key = elim (seekWord g t key) [ found j w ↦ inSet g t key (lowestSet g t key j) w | missed w ↦ nothing w 0 ]
 
 -- Whether any indicated set is false.
 unfoldable pub anyIsFalse : Geometry → Tables → (key : ℕ) → Bool
@@ -65,12 +65,15 @@ anyIsFalse g t key = any (sets g) (λ s. indicated g t key s && isFalse (inSet g
 -- A false set was refused before it would be answered.
 unfoldable pub answerOf : Found → Answer
 answerOf (hit a w c) = at a w c
-answerOf (nothing w) = none w 0
+answerOf (nothing w c) = none w c
 answerOf falseSet = refused 6
 
--- "All-match takes every indicated set, and in kind 2 every equal entry in it."
+-- Whether all-match takes an address of an indicated set: one below the depth, whose entry is equal to the key in kind 2.
+abbrev pub chosen : Geometry → Tables → (key a : ℕ) → Bool
+chosen g t key a = ltb a (g .depth) && (not (eqb (g .kind) segmented) || eqb (storeWord t a) key)
+
 unfoldable pub taken : Geometry → Tables → (key a : ℕ) → Bool
-taken g t key a = indicated g t key (setOf g a) && (not (eqb (g .kind) segmented) || eqb (storeWord t a) key)
+taken g t key a = indicated g t key (setOf g a) && chosen g t key a
 
 unfoldable pub takenWords : Geometry → Tables → (key : ℕ) → List ℕ
 takenWords g t key = tabulate (matchWords g) (λ j. word 64 (λ b. taken g t key (64 * j + b)))

@@ -9,7 +9,7 @@ use Rattle.words.specs.Rules.{any, count, tabulate, First, Nowhere}
 use Rattle.words.specs.Bits.{word}
 use Rattle.geometry.specs.declared.Geometry.{Geometry}
 use Rattle.geometry.specs.Valid.{segmented}
-use Rattle.geometry.specs.Sizes.{sets, rowWords, matchWords, setOf, offsetOf, addressOf}
+use Rattle.geometry.specs.Sizes.{sets, rowWords, matchWords, setOf, offsetOf, addressOf, setLength}
 use Rattle.geometry.specs.Stages.{stages, stageWidth, stage, rows, indicatorWords}
 use Rattle.reference.specs.Entry.{Entry, empty, pattern, wordOf, holds}
 use Rattle.reference.specs.Calls.{Answer, refused, at, none, matched, shape, lent, matchesAfter}
@@ -39,7 +39,7 @@ stores t key a = eqb (storeWord t a) key
 
 -- A false set, should it be indicated: kind 2, and no entry of it is equal to the key.
 abbrev pub NoEqual : Geometry → Tables → (key set : ℕ) → Type 0
-NoEqual g t key s = (eqb (g .kind) segmented ≡ true) × Nowhere (g .«set_width») (λ o. stores t key (addressOf g s o))
+NoEqual g t key s = (eqb (g .kind) segmented ≡ true) × Nowhere (setLength g s) (λ o. stores t key (addressOf g s o))
 
 -- What a first-match answers: the first indicated set decides, and in kind 2 the first equal entry in it.
 pub data FirstOnAny (g : Geometry) (t : Tables) (key : ℕ) (answer : Answer) : Type 0 where
@@ -47,7 +47,7 @@ pub data FirstOnAny (g : Geometry) (t : Tables) (key : ℕ) (answer : Answer) : 
   set-alone : (s : ℕ) → First (sets g) (indicated g t key) s → eqb (g .kind) segmented ≡ false
       → answer ≡ at s (s / 64 + 1) 0 → FirstOnAny g t key answer
   equal-entry : (s o : ℕ) → First (sets g) (indicated g t key) s → eqb (g .kind) segmented ≡ true
-      → First (g .«set_width») (λ o. stores t key (addressOf g s o)) o
+      → First (setLength g s) (λ o. stores t key (addressOf g s o)) o
       → answer ≡ at (addressOf g s o) (s / 64 + 1) (o + 1) → FirstOnAny g t key answer
   no-equal : (s : ℕ) → First (sets g) (indicated g t key) s → NoEqual g t key s → answer ≡ refused 6 → FirstOnAny g t key answer
 
@@ -101,7 +101,7 @@ pub record EveryBit (g : Geometry) (t u : Tables) (a : ℕ) (e : Entry) : Type 0
 -- Whether another address of a's set holds the pattern r.
 unfoldable pub othersHold : Geometry → Tables → (a r : ℕ) → Bool
 othersHold g t a r =
-    any (g .«set_width») (λ o. not (eqb (addressOf g (setOf g a) o) a) && holds (storeEntry g t (addressOf g (setOf g a) o)) r)
+    any (setLength g (setOf g a)) (λ o. not (eqb (addressOf g (setOf g a) o) a) && holds (storeEntry g t (addressOf g (setOf g a) o)) r)
 
 -- Kinds 0 and 2. In a's set the bit of r is set where the new entry is r, and cleared "exactly when q is a pattern other
 -- than p and no other address of the set holds q"; an erase's new entry is empty and sets nothing. No other bit changes.

@@ -7,7 +7,7 @@ use lib.ListN.{set}
 use Rattle.words.specs.Rules.{any, member, keep}
 use Rattle.words.specs.Bits.{setBit, clearBit, changeBit}
 use Rattle.geometry.specs.declared.Geometry.{Geometry}
-use Rattle.geometry.specs.Sizes.{rowWords, setOf, addressOf}
+use Rattle.geometry.specs.Sizes.{rowWords, setOf, addressOf, setLength}
 use Rattle.reference.specs.Entry.{Entry, wordOf}
 use Rattle.reference.specs.Tables.{Tables, storeEntry}
 use Rattle.reference.specs.Image.{entryRows, covers}
@@ -20,7 +20,7 @@ change f g s (r ∷ rs) ind = change f g s rs (changeBit f ind (rowWords g * r +
 -- Whether another address of a's set has an entry that covers the row.
 unfoldable pub othersCover : Geometry → Tables → (a row : ℕ) → Bool
 othersCover g t a r =
-    any (g .«set_width»)
+    any (setLength g (setOf g a))
     (λ o. not (eqb (addressOf g (setOf g a) o) a) && covers g (storeEntry g t (addressOf g (setOf g a) o)) r)
 
 -- Whether neither the rows of the next entry nor another address of the set cover the row.

@@ -106,9 +106,12 @@ fn put_items(out: &mut [u8], at: usize, answer: Answer, matches: &[u64]) -> usiz
             let after_words = put_named(out, after_address, b" w ", words_read as u32);
             put_last(out, after_words, b" c ", entries_compared as u32)
         }
-        Answer::None { words_read } => {
-            let after_words = put_named(out, at, b" none w ", words_read as u32);
-            put_bytes(out, after_words, b" c 0\n")
+        Answer::None {
+            words_read,
+            entries_compared,
+        } => {
+            let after_none = put_named(out, at, b" none w ", words_read as u32);
+            put_last(out, after_none, b" c ", entries_compared as u32)
         }
         Answer::Matched { hits } => {
             let after_hits = put_named(out, at, b" hits ", hits);

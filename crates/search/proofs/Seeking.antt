@@ -17,13 +17,12 @@ use Rattle.words.proofs.Seek.{seek-on, seek-here, seek-over}
 use Rattle.words.proofs.Bits.{bits-equal, bit-out, bit-and, trailing-lowest}
 use Rattle.geometry.specs.declared.Geometry.{Geometry}
 use Rattle.geometry.specs.Valid.{valid, segmented}
-use Rattle.geometry.specs.Sizes.{sets, rowWords, addressOf}
+use Rattle.geometry.specs.Sizes.{sets, rowWords, addressOf, setLength}
 use Rattle.geometry.specs.Stages.{stages, rowOf, rowsOf}
 use Rattle.geometry.proofs.Facts.{facts}
 use Rattle.geometry.proofs.Places.{address-lt, alone-address}
 use Rattle.geometry.proofs.Stages.{rows-drop, rows-over}
 use Rattle.geometry.proofs.Bounds.{words-few}
-use Rattle.reference.specs.Entry.{emptyWord}
 use Rattle.reference.specs.Tables.{Tables, storeWord}
 use Rattle.reference.specs.Search.{joined, indicated, seekWord, seekEntry, lowestSet, hit, nothing, falseSet, inSet, firstFound}
 use Rattle.reference.proofs.Searched.{indicated-means, joined-lt}
@@ -31,7 +30,6 @@ use Rattle.search.specs.declared.Stop.{Stop}
 use Rattle.search.specs.declared.Stop.the-variants.{Word, Entry, FalseSet}
 use Rattle.calls.specs.Answers.{tables}
 use Rattle.search.specs.Rows.{InSets}
-use Rattle.words.proofs.Rules.{any-default}
 
 -- ---- the joined word
 
@@ -85,12 +83,11 @@ wordsFrom g t key j l = seek (λ i. not (eqb (joined g t key i) 0)) (rowWords g 
 
 -- the entries of a set from offset o on
 abbrev pub entriesFrom : Geometry → Tables → (key set o looks : ℕ) → Sought
-entriesFrom g t key s o l = seek (λ i. eqb (storeWord t (addressOf g s i)) key) (g .«set_width» - o) o l
+entriesFrom g t key s o l = seek (λ i. eqb (storeWord t (addressOf g s i)) key) (setLength g s - o) o l
 
 -- Row word j is the first that is not 0, and `looks` words were looked at.
 pub record AtWord (g : Geometry) (t : Tables) (key j word looks : ℕ) : Type 0 where
   pub word-lt : j < 64
-  pub bit-lt : trailingZeros 64 word < 64
   pub set-lt : 64 * j + trailingZeros 64 word < sets g
   pub here : seekWord g t key ≡ found j looks
   pub lowest : 64 * j + trailingZeros 64 word ≡ lowestSet g t key j
@@ -107,7 +104,7 @@ module _ (g : Geometry) (t : Tables) (key : ℕ) where
 
   -- the search has come to row word j
   module _ (j looks : ℕ) (come : wordsFrom g t key j looks ≡ seekWord g t key) where
-    pub words-over : rowWords g ≤ j → firstFound g t key ≡ nothing looks
+    pub words-over : rowWords g ≤ j → firstFound g t key ≡ nothing looks 0
     unfolding firstFound
     words-over h = rw (sym come ∙ seek-over _ (rowWords g) j looks h, firstFound)
 
@@ -127,7 +124,6 @@ module _ (g : Geometry) (t : Tables) (key : ℕ) where
           let of-sets : InSets g word j = rw same (joined-in-sets g t key j) in
           record {
             word-lt = omega (arith, words-few g (facts g ok));
-            bit-lt = low .within;
             set-lt = of-sets _ (low .here);
             here = sym come ∙ seek-here _ (rowWords g) j looks inside (rw (← same, ne-eqb word 0 some));
             lowest = rw same;
@@ -137,43 +133,39 @@ module _ (g : Geometry) (t : Tables) (key : ℕ) where
   unfolding seekEntry
   entries-start s = rw sub-zero
 
-pub named : {g : Geometry} {t : Tables} {key j word looks b s : ℕ} → AtWord g t key j word looks → b ≡ trailingZeros 64 word → s ≡ 64 * j + b
-    → Named g t key s looks
+pub named : {g : Geometry} {t : Tables} {key j word looks s : ℕ} → AtWord g t key j word looks → s ≡ 64 * j + trailingZeros 64 word → Named g t key s looks
 unfolding firstFound
-named a low is = rw (is, low) (record { inside = a .set-lt; finds = rw (a .here, firstFound, a .lowest) })
+named a is = rw is (record { inside = a .set-lt; finds = rw (a .here, firstFound, a .lowest) })
 
 module _ {g : Geometry} {t : Tables} {key s looks : ℕ} (a : Named g t key s looks) where
   -- where a set is an address, that is found
-  pub set-found : valid g ≡ true → eqb (g .kind) segmented ≡ false → (o n : ℕ) → o < g .«set_width» → n ≡ addressOf g s o → firstFound g t key ≡ hit n looks 0
+  pub set-found : valid g ≡ true → eqb (g .kind) segmented ≡ false → (o n : ℕ) → o < setLength g s → n ≡ addressOf g s o → firstFound g t key ≡ hit n looks 0
   unfolding inSet
-  set-found ok k o n inside is = let f = facts g ok in a .finds ∙ rw (is, alone-address g f s o (f .alone k) inside, k, inSet)
+  set-found ok k o n inside is = a .finds ∙ rw (is, alone-address g (facts g ok) s o k inside, k, inSet)
 
   -- the comparison of the set's entries has come to offset o
   module _ (o c : ℕ) (come : entriesFrom g t key s o c ≡ seekEntry g t key s) where
-    pub entries-over : eqb (g .kind) segmented ≡ true → g .«set_width» ≤ o → firstFound g t key ≡ falseSet
+    pub entries-over : eqb (g .kind) segmented ≡ true → setLength g s ≤ o → firstFound g t key ≡ falseSet
     unfolding inSet
-    entries-over k h = a .finds ∙ rw (k, inSet, sym come ∙ seek-over _ (g .«set_width») o c h)
+    entries-over k h = a .finds ∙ rw (k, inSet, sym come ∙ seek-over _ (setLength g s) o c h)
 
     -- and the entry there, at address n, is read
-    module _ (ok : valid g ≡ true) (long : length (t .store) ≡ g .depth) (inside : o < g .«set_width») (n : ℕ) (is : n ≡ addressOf g s o) where
-      pub address-inside : n < length (t .store)
-      address-inside = rw (is, long) (address-lt g (facts g ok) s o (a .inside) inside)
+    module _ (inside : o < setLength g s) (n : ℕ) (is : n ≡ addressOf g s o) where
+      pub address-inside : valid g ≡ true → length (t .store) ≡ g .depth → n < length (t .store)
+      address-inside ok long = rw (is, long) (address-lt g (facts g ok) s o (a .inside) inside)
 
-      entry-is : getD (t .store) n 0 ≡ storeWord t (addressOf g s o)
-      entry-is = rw (← is) (any-default (t .store) n 0 emptyWord address-inside)
+      pub entries-on : (v : ℕ) → v ≡ storeWord t n → (v ≡ key → ⊥) → entriesFrom g t key s (o + 1) (c + 1) ≡ seekEntry g t key s
+      entries-on v read other = seek-on _ (setLength g s) o c inside (rw (← is, ← read) (ne-eqb v key other)) ∙ come
 
-      pub entries-on : (getD (t .store) n 0 ≡ key → ⊥) → entriesFrom g t key s (o + 1) (c + 1) ≡ seekEntry g t key s
-      entries-on other = seek-on _ (g .«set_width») o c inside (rw (← entry-is) (ne-eqb _ key other)) ∙ come
-
-      pub entry-found : eqb (g .kind) segmented ≡ true → getD (t .store) n 0 ≡ key → firstFound g t key ≡ hit (addressOf g s o) looks (c + 1)
+      pub entry-found : eqb (g .kind) segmented ≡ true → (v : ℕ) → v ≡ storeWord t n → v ≡ key → firstFound g t key ≡ hit n looks (c + 1)
       unfolding inSet
-      entry-found k equal =
-          a .finds ∙ rw (k, inSet, sym come ∙ seek-here _ (g .«set_width») o c inside (rw (← entry-is) (eq-eqb _ key equal)))
+      entry-found k v read equal =
+          a .finds ∙ rw (k, inSet, sym come ∙ seek-here _ (setLength g s) o c inside (rw (← is, ← read) (eq-eqb v key equal)), is)
 
 -- What is known where the search of the row words has stopped: at a word that is 0, past the last; at another, in a kind whose
 -- sets are addresses; at an entry; or at a false set.
 abbrev pub Stopped : Geometry → Tables → (key : ℕ) → Stop → Type 0
-Stopped g t key (Word w n) =
-    (w ≡ 0 → firstFound g t key ≡ nothing n) × ((w ≡ 0 → ⊥) → (1 ≤ n) × AtWord g t key (n - 1) w n × (eqb (g .kind) segmented ≡ false))
+Stopped g t key (Word w j n) =
+    (w ≡ 0 → firstFound g t key ≡ nothing n 0) × ((w ≡ 0 → ⊥) → AtWord g t key (j .0) w n × (eqb (g .kind) segmented ≡ false))
 Stopped g t key (Entry a n c) = firstFound g t key ≡ hit (a .0) n c
 Stopped g t key FalseSet = firstFound g t key ≡ falseSet

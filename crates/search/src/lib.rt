@@ -4,10 +4,12 @@
 use calls::Answer;
 use geometry::Geometry;
 use geometry::Refusal;
+use geometry::SEGMENTED;
 use geometry::Sizes;
-use geometry::address::Address;
-use geometry::address::Offset;
-use geometry::address::SetIndex;
+use places::Address;
+use places::Offset;
+use places::RowWord;
+use places::SetIndex;
 ghost use Prim.Native.Nat.{_<_};
 ghost use mathlib.Core.Path.{_≡_};
 ghost use mathlib.Core.List.{[]};
@@ -17,16 +19,16 @@ ghost use Rattle.reference.specs.Search.{joined, firstFound, answerOf};
 ghost use Rattle.calls.specs.Answers.{answerFor, tables};
 ghost use Rattle.calls.specs.Passed.{Lent};
 
-// Word `j` of the key's rows, joined with and; padding bits are dropped.
-pub fn joined(g: Geometry, sizes: Sizes, indicators: &[u64], key: u32, j: usize) -> u64
-    requires { ⌜ Lent g sizes (g .depth) (length (now indicators)) × (j < rowWords g) ⌝ }
-    ensures { λ r. ⌜ r ≡ joined g (tables [] (now (indicators .entry))) key j ⌝ }
+// A word of the key's rows, joined with and; padding bits are dropped.
+pub fn joined(g: Geometry, sizes: Sizes, indicators: &[u64], key: u32, j: RowWord) -> u64
+    requires { ⌜ Lent g sizes (g .depth) (length (now indicators)) × (j .0 < rowWords g) ⌝ }
+    ensures { λ r. ⌜ r ≡ joined g (tables [] (now (indicators .entry))) key (j .0) ⌝ }
 {
-    let mut word = words::row_mask(sizes.sets, j);
+    let mut word = j.mask(sizes);
     let mut k = 0;
     while k < sizes.stages {
         let row = g.row(key, k);
-        word = indicators[sizes.row_words * row + j] & word;
+        word = j.read(indicators, row, sizes) & word;
         k += 1;
     }
     word
@@ -34,8 +36,9 @@ pub fn joined(g: Geometry, sizes: Sizes, indicators: &[u64], key: u32, j: usize)
 
 // Where the search of the row words stops.
 enum Stop {
-    // A row word that is not 0, or 0 past the last one; and the words read. Where a set is an address, that tells the rest.
-    Word(u64, u16),
+    // A row word that is not 0, or 0 past the last one; which it is, and the words read. Where a set is an address, that tells
+    // the rest.
+    Word(u64, RowWord, u16),
     // The address of an entry equal to the key; the words read and the entries compared.
     Entry(Address, u16, u16),
     // An indicated set with no such entry.
@@ -49,38 +52,42 @@ pub fn first(g: Geometry, sizes: Sizes, store: &[u32], indicators: &[u64], key: 
     ensures { λ r. ⌜ answerFor r [] ≡ answerOf (firstFound g (tables (now (store .entry)) (now (indicators .entry))) key) ⌝ }
 {
     let mut words_read: u16 = 0;
-    let mut j = 0;
+    let mut j = RowWord::first();
     let stop = 'words: loop {
-        if sizes.row_words <= j {
-            break Stop::Word(0, words_read);
+        if !j.is_within(sizes) {
+            break Stop::Word(0, j, words_read);
         }
         let word = joined(g, sizes, indicators, key, j);
         words_read += 1;
         if word != 0 {
-            if g.kind != 2 {
-                break Stop::Word(word, words_read);
+            if g.kind != SEGMENTED {
+                break Stop::Word(word, j, words_read);
             }
-            let set = SetIndex::of_bit(j, words::lowest_bit(word));
+            let set = SetIndex::lowest(word, j);
+            let length = set.length(g);
             let mut entries_compared: u16 = 0;
             let mut at = Offset::first();
-            while at.is_within(g) {
+            while at.is_within(length) {
                 let address = set.address(at, g);
                 entries_compared += 1;
-                if store[address.number() as usize] == key {
+                if address.word(store) == key {
                     break 'words Stop::Entry(address, words_read, entries_compared);
                 }
                 at = at.next();
             }
             break Stop::FalseSet;
         }
-        j += 1;
+        j = j.next();
     };
     match stop {
-        Stop::Word(word, words_read) => {
+        Stop::Word(word, j, words_read) => {
             if word == 0 {
-                return Answer::None { words_read };
+                return Answer::None {
+                    words_read,
+                    entries_compared: 0,
+                };
             }
-            let set = SetIndex::of_bit((words_read - 1) as usize, words::lowest_bit(word));
+            let set = SetIndex::lowest(word, j);
             Answer::At {
                 address: set.address(Offset::first(), g),
                 words_read,

@@ -1,13 +1,13 @@
 -- What the functions of `update` find in a turn of their loops and at the end of them: the rows of a pattern stage by stage,
 -- the addresses of a set one by one; and what `replace` makes of it.
-use Prim.Native.Nat.{ℕ, _+_, _*_, _/_, _%_, _^_, _<_}
+use Prim.Native.Nat.{ℕ, _+_, _*_, _/_, _%_, _<_, _≤_}
 use mathlib.Core.Path.{_≡_, sym, _∙_}
 use mathlib.Core.Bool.{Bool, true, false, cond, not, _&&_, _||_}
 use mathlib.Core.List.{List, [], _∷_}
 use native.Mathlib.Omega.{arith}
 use lib.Dec.{eqb, ltb}
-use lib.ListN.{length, getD, set, drop}
-use borrow.Author.Tests.{ltb-false, eq-eqb, ne-eqb}
+use lib.ListN.{length, set, drop}
+use borrow.Author.Tests.{eq-eqb, ne-eqb}
 use Rattle.words.specs.Rules.{member, keep, Nowhere}
 use Rattle.words.specs.Bits.{setBit, clearBit, changeBit}
 use Rattle.words.proofs.Rules.{any-true, any-false}
@@ -15,14 +15,14 @@ use Rattle.words.proofs.Bits.{length-changeBit}
 use Rattle.geometry.specs.declared.Geometry.{Geometry}
 use Rattle.geometry.specs.declared.Sizes.{Sizes}
 use Rattle.geometry.specs.Valid.{valid}
-use Rattle.geometry.specs.Sizes.{sets, setOf, addressOf}
+use Rattle.geometry.specs.Sizes.{sets, setOf, addressOf, setLength}
 use Rattle.geometry.specs.Stages.{stages, rowOf, rowsOf}
 use Rattle.geometry.proofs.Facts.{facts}
 use Rattle.geometry.proofs.Places.{set-lt, address-lt, word-lt}
 use Rattle.geometry.proofs.Stages.{rows-drop}
 use Rattle.reference.specs.Entry.{Entry, empty, pattern, emptyWord, wordOf}
 use Rattle.reference.specs.Calls.{refused, held}
-use Rattle.reference.specs.Tables.{Tables, storeEntry}
+use Rattle.reference.specs.Tables.{Tables, storeWord, storeEntry}
 use Rattle.reference.specs.Image.{entryRows, covers}
 use Rattle.reference.specs.Update.{change, othersCover, isReleased, released, replaced}
 use Rattle.reference.specs.Steps.{badEntry}
@@ -38,12 +38,9 @@ use Rattle.calls.proofs.Indexed.{word-within}
 pub rows-first : (g : Geometry) (p k : ℕ) {r : ℕ} → r ≡ rowOf g p k → k < stages g → drop k (rowsOf g p) ≡ r ∷ drop (k + 1) (rowsOf g p)
 rows-first g p k e h = rw e (rows-drop g p k h)
 
--- The word with the bit of set s in row r is one of n words, and no number of a word wraps.
-abbrev pub Within : Sizes → (r s n : ℕ) → Type 0
-Within sizes r s n = (sizes .«row_words» * r + s / 64 < n) × (n < 2 ^ 35)
-
+-- the word with the bit of set s in row r is one of the n words
 pub place-within : {g : Geometry} {sizes : Sizes} {store ind n k s r : ℕ} (p : ℕ) → Lent g sizes store ind → n ≡ ind → k < sizes .stages
-    → r ≡ rowOf g p k → s < sets g → Within sizes r s n
+    → r ≡ rowOf g p k → s < sets g → sizes .«row_words» * r + s / 64 < n
 place-within {g} {sizes} {store} {ind} {k = k} {s} {r} p l en hk er hs =
     rw en (word-within g sizes store ind l p k r (s / 64) hk er (word-lt g (facts g (l .sized .is-valid)) s hs))
 
@@ -60,12 +57,12 @@ pub record Left (f : ℕ → ℕ → ℕ) (g : Geometry) (s n : ℕ) (rs all ind
 
 module _ {f : ℕ → ℕ → ℕ} {g : Geometry} {s n : ℕ} {rs all ind : List ℕ} (h : Left f g s n rs all ind) where
   -- the bit of the first of them is changed
-  pub change-first : {sizes : Sizes} {next rest : List ℕ} {r w b : ℕ} → Sized g sizes → rs ≡ r ∷ rest → w ≡ s / 64 → b ≡ s % 64
-      → next ≡ changeBit f ind (sizes .«row_words» * r + w) b → Left f g s n rest all next
+  pub change-first : {sizes : Sizes} {next rest : List ℕ} {r : ℕ} → Sized g sizes → rs ≡ r ∷ rest
+      → next ≡ changeBit f ind (sizes .«row_words» * r + s / 64) (s % 64) → Left f g s n rest all next
   unfolding change
-  change-first {b = b} z cut ew eb e = record {
-    same-length = rw e (length-changeBit f ind _ b ∙ h .same-length);
-    makes = rw (e, z .same-words, ew, eb) (rw cut at (h .makes));
+  change-first z cut e = record {
+    same-length = rw e (length-changeBit f ind _ (s % 64) ∙ h .same-length);
+    makes = rw (e, z .same-words) (rw cut at (h .makes));
   }
 
   -- nothing is changed
@@ -119,55 +116,53 @@ otherCovers g store a row o = not (eqb (addressOf g (setOf g a) o) a) && covers 
 
 -- The address at offset o of the set of a is b, and the store has it.
 pub record Beside (g : Geometry) (store : List ℕ) (a o b : ℕ) : Type 0 where
-  pub within : o < g .«set_width»
+  pub within : o < setLength g (setOf g a)
   pub is : b ≡ addressOf g (setOf g a) o
   pub inside : b < length store
 
 pub beside : (g : Geometry) (store : List ℕ) (a o b s : ℕ) → valid g ≡ true → length store ≡ g .depth → a < g .depth
-    → o < g .«set_width» → s ≡ setOf g a → b ≡ addressOf g s o → Beside g store a o b
+    → o < setLength g s → s ≡ setOf g a → b ≡ addressOf g s o → Beside g store a o b
 beside g store a o b s ok full ha ho es eb =
     let f = facts g ok in
-    record { within = ho; is = rw (← es) eb; inside = rw (full, eb, es) (address-lt g f (setOf g a) o (set-lt g f a ha) ho) }
+    let within : o < setLength g (setOf g a) = rw es at ho in
+    record { within = within; is = rw (← es) eb; inside = rw (full, eb, es) (address-lt g f (setOf g a) o (set-lt g f a ha) within) }
 
--- by the code's test of b against m, its number of a
-module _ {g : Geometry} {store : List ℕ} {a o b m : ℕ} (row : ℕ) (h : Beside g store a o b) (number : m ≡ a) where
-  pub covers-not : b ≡ m → otherCovers g store a row o ≡ false
-  covers-not e = rw (eq-eqb (addressOf g (setOf g a) o) a (sym (h .is) ∙ e ∙ number))
+-- where `same` is whether the code found b to be a
+module _ {g : Geometry} {store : List ℕ} {a o b : ℕ} (row : ℕ) (h : Beside g store a o b) {same : Bool} (found : same ≡ eqb b a) where
+  pub covers-not : not same ≡ false → otherCovers g store a row o ≡ false
+  covers-not n = rw (← h .is, ← found, n)
 
-  -- r is whether the entry x that the code reads there covers the row
-  pub covers-other : {sizes : Sizes} {x : Entry} {r : Bool} → Sized g sizes → (b ≡ m → ⊥)
-      → x ≡ cond (ltb (getD store b 0) (sizes .patterns)) (pattern (getD store b 0)) empty → r ≡ covers g x row → otherCovers g store a row o ≡ r
-  covers-other z n ex er =
-      let there = addressOf g (setOf g a) o in
-      rw (er, ex, entry-held z store [] there b (h .is) (h .inside), ne-eqb there a (λ e. n (h .is ∙ e ∙ sym number)))
+  -- x is the entry of the word w that the code reads there, and r whether it covers the row
+  pub covers-other : {sizes : Sizes} {w : ℕ} {x : Entry} {r : Bool} → Sized g sizes → not same ≡ true → w ≡ storeWord (tables store []) b
+      → x ≡ cond (ltb w (sizes .patterns)) (pattern w) empty → r ≡ covers g x row → otherCovers g store a row o ≡ r
+  covers-other {w = w} z n ew ex er = rw (← h .is, ← found, n, er, ex, entry-held z store [] b w ew)
 
 module _ (g : Geometry) (store : List ℕ) (a row o : ℕ) where
-  pub others-found : o < g .«set_width» → otherCovers g store a row o ≡ true → true ≡ othersCover g (tables store []) a row
+  pub others-found : o < setLength g (setOf g a) → otherCovers g store a row o ≡ true → true ≡ othersCover g (tables store []) a row
   unfolding othersCover
-  others-found h e = sym (any-true (g .«set_width») (otherCovers g store a row) o h e)
+  others-found h e = sym (any-true (setLength g (setOf g a)) (otherCovers g store a row) o h e)
 
-  pub others-none : ltb o (g .«set_width») ≡ false → Nowhere o (otherCovers g store a row) → false ≡ othersCover g (tables store []) a row
+  pub others-none : setLength g (setOf g a) ≤ o → Nowhere o (otherCovers g store a row) → false ≡ othersCover g (tables store []) a row
   unfolding othersCover
-  others-none e h =
-      let past = ltb-false o (g .«set_width») e in
-      sym (any-false (g .«set_width») (otherCovers g store a row) (λ i l. h i (omega arith)))
+  others-none past h = sym (any-false (setLength g (setOf g a)) (otherCovers g store a row) (λ i l. h i (omega arith)))
 
 -- ---- an entry comes to an address
 
--- e is the entry and a the address, which the code has as m; `sound` is what it found of the word there
-module _ {g : Geometry} {sizes : Sizes} (z : Sized g sizes) (store ind : List ℕ) {a m : ℕ} (e : Entry) {sound : Bool} (is : m ≡ a) (inside : m < length store)
-    (found : sound ≡ (eqb (getD store m 0) emptyWord || ltb (getD store m 0) (sizes .patterns))) where
+-- e is the entry, w the word of the store at the address a; `sound` is what the code found of it
+module _ {g : Geometry} {sizes : Sizes} (z : Sized g sizes) (store ind : List ℕ) (a : ℕ) {w : ℕ} (e : Entry) {sound : Bool} (is : w ≡ storeWord (tables store ind) a)
+    (found : sound ≡ (eqb w emptyWord || ltb w (sizes .patterns))) where
   bad : {b : Bool} → not sound ≡ b → badEntry g (tables store ind) a ≡ b
-  bad n = entry-bad z store ind a m is inside ∙ rw (← found) n
+  bad n = entry-bad z store ind a w is ∙ rw (← found) n
 
   pub replace-refused : not sound ≡ true → record { answer = refused 5; tables = tables store ind; matches = [] } ≡ replacing g (tables store ind) a e
   unfolding replacing
   replace-refused n = rw (bad n)
 
-  -- x is the former entry, s the code's set of a and w its word of e; i₁ and i₂ are the indicators with bits set and then cleared
-  pub replace-done : {x : Entry} {s w : ℕ} {i₁ i₂ : List ℕ} → not sound ≡ false
-      → x ≡ cond (ltb (getD store m 0) (sizes .patterns)) (pattern (getD store m 0)) empty → s ≡ setOf g a → i₁ ≡ change setBit g s (entryRows g e) ind
-      → i₂ ≡ change clearBit g (setOf g a) (givenUp g (tables store []) a e (entryRows g x)) i₁ → w ≡ wordOf e
-      → record { answer = held x; tables = tables (set store m w) i₂; matches = [] } ≡ replacing g (tables store ind) a e
+  -- x is the former entry, s the code's set of a and v its word of e; i₁ and i₂ are the indicators with bits set and then cleared,
+  -- `after` the store
+  pub replace-done : {x : Entry} {s v : ℕ} {i₁ i₂ after : List ℕ} → not sound ≡ false → x ≡ cond (ltb w (sizes .patterns)) (pattern w) empty
+      → s ≡ setOf g a → i₁ ≡ change setBit g s (entryRows g e) ind
+      → i₂ ≡ change clearBit g (setOf g a) (givenUp g (tables store []) a e (entryRows g x)) i₁ → v ≡ wordOf e → after ≡ set store a v
+      → record { answer = held x; tables = tables after i₂; matches = [] } ≡ replacing g (tables store ind) a e
   unfolding replacing replaced released othersCover
-  replace-done n ex es e₁ e₂ ew = rw (bad n, e₂, e₁, ex, entry-held z store ind a m is inside, es, ew, is)
+  replace-done n ex es e₁ e₂ ev e₃ = rw (bad n, e₃, e₂, e₁, ex, entry-held z store ind a w is, es, ev)

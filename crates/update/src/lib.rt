@@ -6,9 +6,9 @@ use calls::Entry;
 use geometry::Geometry;
 use geometry::Refusal;
 use geometry::Sizes;
-use geometry::address::Address;
-use geometry::address::Offset;
-use geometry::address::SetIndex;
+use places::Address;
+use places::Offset;
+use places::SetIndex;
 ghost use Prim.Native.Nat.{_<_};
 ghost use mathlib.Core.Path.{_≡_};
 ghost use mathlib.Core.List.{[]};
@@ -32,8 +32,7 @@ fn set_rows(g: Geometry, sizes: Sizes, indicators: &mut [u64], set: SetIndex, en
     };
     let mut k = 0;
     while k < sizes.stages {
-        let row = g.row(pattern, k);
-        words::set_bit(indicators, sizes.row_words * row + set.word(), set.bit());
+        set.set_bit(indicators, g.row(pattern, k), sizes);
         k += 1;
     }
 }
@@ -62,11 +61,12 @@ fn others_cover(g: Geometry, sizes: Sizes, store: &[u32], address: Address, row:
     ensures { λ r. ⌜ r ≡ othersCover g (tables (now (store .entry)) []) (address .0) row ⌝ }
 {
     let set = address.set(g);
+    let length = set.length(g);
     let mut at = Offset::first();
-    while at.is_within(g) {
-        let other = set.address(at, g).number();
-        if other != address.number() {
-            let entry = calls::entry_of(store[other as usize], sizes.patterns);
+    while at.is_within(length) {
+        let other = set.address(at, g);
+        if !other.is(address) {
+            let entry = calls::entry_of(other.word(store), sizes.patterns);
             if is_covered_by(g, sizes, entry, row) {
                 return true;
             }
@@ -97,7 +97,7 @@ fn clear_released(
     while k < sizes.stages {
         let row = g.row(pattern, k);
         if !is_covered_by(g, sizes, next, row) && !others_cover(g, sizes, store, address, row) {
-            words::clear_bit(indicators, sizes.row_words * row + set.word(), set.bit());
+            set.clear_bit(indicators, row, sizes);
         }
         k += 1;
     }
@@ -116,14 +116,13 @@ pub fn replace(
     requires { ⌜ Lent g sizes (length (now store)) (length (now indicators)) × (address .0 < g .depth) ⌝ }
     ensures { λ r. ⌜ left r (now (store .exit)) (now (indicators .exit)) [] ≡ replacing g (tables (now (store .entry)) (now (indicators .entry))) (address .0) (entryFor next) ⌝ }
 {
-    let at = address.number() as usize;
-    let word = store[at];
+    let word = address.word(store);
     if !calls::is_sound(word, sizes.patterns) {
         return Answer::Refused(Refusal::BadEntry);
     }
     let previous = calls::entry_of(word, sizes.patterns);
     set_rows(g, sizes, indicators, address.set(g), next);
     clear_released(g, sizes, store, indicators, address, previous, next);
-    store[at] = next.word();
+    address.put(store, next.word());
     Answer::Held(previous)
 }

@@ -1,17 +1,18 @@
 -- Laws of rules over numbers, and of the lists made by them.
-use Prim.Native.Nat.{ℕ, zero, suc, _+_, _<_, _≤_}
+use Prim.Native.Nat.{ℕ, zero, suc, _+_, _*_, _/_, _%_, _<_, _≤_}
 use mathlib.Core.Logic.{_⊎_, inl, inr}
 use mathlib.Core.Path.{_≡_, refl, sym, ap, _∙_}
-use mathlib.Core.Bool.{Bool, true, false, cond, not, _&&_, _||_, false≢true, or-true, or-false, or-assoc, and-false}
+use mathlib.Core.Bool.{Bool, true, false, cond, not, _&&_, _||_, false≢true, or-true, or-false, or-assoc, and-false, and-eq-true-iff}
 use mathlib.Core.List.{List, [], _∷_}
 use native.Mathlib.Numerals.{one-add}
-use native.Mathlib.Nat.{zero-add, add-zero, add-suc, add-assoc, le-of-suc-le-suc, eq-or-lt-of-le}
+use native.Mathlib.Nat.{zero-add, add-zero, add-suc, add-assoc, le-of-suc-le-suc, eq-or-lt-of-le, mul-comm, div-add-mod}
 use native.Mathlib.Decide.{decLt}
 use native.Mathlib.Omega.{arith}
 use lib.Dec.{eqb}
+use lib.Arith.{digits-div, digits-mod}
 use lib.ListN.{length, getD}
 use lib.Seq.{ext-getD}
-use borrow.Author.Tests.{eqb-true}
+use borrow.Author.Tests.{eqb-true, eq-eqb}
 use Rattle.words.specs.Rules.{any, count, member, keep, tabulate, First, Nowhere}
 
 -- two tests that follow from each other are one
@@ -24,6 +25,21 @@ both-ways false false p q = refl
 pub refuted : (b : Bool) → (b ≡ true → ⊥) → b ≡ false
 refuted true h = absurd (h refl)
 refuted false h = refl
+
+-- a number is told by its quotient and its remainder
+pub digits-same : (n a s o : ℕ) → o < n → eqb a (n * s + o) ≡ (eqb (a / n) s && eqb (a % n) o)
+digits-same n a s o h = both-ways _ _ apart together
+  where
+    apart : eqb a (n * s + o) ≡ true → (eqb (a / n) s && eqb (a % n) o) ≡ true
+    apart e =
+        let same = eqb-true a (n * s + o) e in
+        and-eq-true-iff _ _ .1
+        (eq-eqb (a / n) s (rw (same, mul-comm) (digits-div s h)), eq-eqb (a % n) o (rw (same, mul-comm) (digits-mod s h)))
+
+    together : (eqb (a / n) s && eqb (a % n) o) ≡ true → eqb a (n * s + o) ≡ true
+    together e =
+        let both = and-eq-true-iff (eqb (a / n) s) (eqb (a % n) o) .0 e in
+        eq-eqb a (n * s + o) (rw (← eqb-true (a / n) s (both .0), ← eqb-true (a % n) o (both .1)) (sym (div-add-mod a n)))
 
 pub any-witness : (n : ℕ) (r : ℕ → Bool) → any n r ≡ true → (i : ℕ) × (i < n) × (r i ≡ true)
 unfolding any

@@ -2,87 +2,89 @@
 use Prim.Native.Nat.{_-_, _/_, _<_}
 use mathlib.Core.Path.{_≡_, sym, ap, _∙_}
 use mathlib.Core.Bool.{true, false}
+use mathlib.Core.List.{[]}
 use mathlib.Core.Logic.{⊎-elim}
 use native.Mathlib.Omega.{arith}
 use lib.ListN.{length}
 use borrow.Author.Needs.{needs}
 use borrow.Author.Tests.{ltb-true, ltb-false}
+use Rattle.geometry.specs.Sizes.{setLength}
 use Rattle.geometry.proofs.Facts.{facts}
-use Rattle.geometry.proofs.Places.{address-lt, matches-most}
+use Rattle.geometry.proofs.Places.{length-most, address-lt, matches-most}
+use Rattle.calls.specs.Answers.{tables}
 use Rattle.collect.specs.Marks.{marked}
 use Rattle.collect.proofs.Marking.{length-marked, chosen-all, chosen-equal, takenBefore, set-start, set-step, set-end}
 use Rattle.collect.proofs.take_set.Statement.{statement}
 use Rattle.collect.proofs.take_set.Tie as tie
 
 abbrev Inv-loop : tie.InvT-loop
-Inv-loop g store matches₀ set key at₀ matches at = matches ≡ marked (takenBefore g store key (set .0) (at .0)) matches₀
+Inv-loop g store matches₀ set key length at₀ matches at =
+    (length .0 ≡ setLength g (set .0)) × (matches ≡ marked (takenBefore g (tables store []) key (set .0) (at .0)) matches₀)
 
 abbrev μ-loop : tie.MeasureT-loop
-μ-loop g store matches₀ set key at₀ matches at = g .«set_width» - at .0
+μ-loop g store matches₀ set key length at₀ matches at = setLength g (set .0) - at .0
+
+-- where the function starts, and the turn in which an address is found
+abbrev start : tie.At-loop Inv-loop μ-loop → tie.Start Inv-loop μ-loop
+start l = l .before .before .before .before .before
+
+abbrev turn : tie.After-address Inv-loop μ-loop → tie.At-loop Inv-loop μ-loop
+turn k = k .before .before .before
 
 -- the offset of a turn is one of the set, its address one of the store, and the address has a bit of the match word
-inside : (k : tie.Then1 Inv-loop μ-loop) → k .before .before .loop .at .0 < k .before .before .before .before .before .before .args .g .«set_width»
-inside k = ltb-true _ _ (sym (k .before .is-within .ensures) ∙ k .if1 .taken)
+inside : (k : tie.Then1 Inv-loop μ-loop) → let l = k .before .before in l .loop .at .0 < setLength (start l .args .g) (start l .args .set .0)
+inside k = rw (← k .before .before .loop .inv .0) (ltb-true _ _ (sym (k .before .is-within .ensures) ∙ k .if1 .taken))
 
-stored : (k : tie.After-number Inv-loop μ-loop) → k .number .result < k .before .before .before .before .before .before .before .before .args .g .depth
+stored : (k : tie.After-address Inv-loop μ-loop) → k .address .result .0 < start (turn k) .args .g .depth
 stored k =
-    let s = k .before .before .before .before .before .before .before .before in
-    omega (arith, address-lt (s .args .g) (facts _ (s .pre .0)) _ _ (s .pre .3) (inside (k .before .before)))
+    let s = start (turn k) in
+    omega (arith, k .address .ensures, address-lt (s .args .g) (facts _ (s .pre .0)) _ _ (s .pre .3) (inside (k .before)))
 
-marks : (k : tie.After-number Inv-loop μ-loop) → k .number .result / 64 < length (k .before .before .before .before .loop .matches)
-marks k =
-    let at = k .before .before .before .before in
-    let s = at .before .before .before .before in
-    omega (arith, stored k, matches-most _ (facts _ (s .pre .0)), ap length (at .loop .inv) ∙ length-marked _ _)
+same-marks : (l : tie.At-loop Inv-loop μ-loop) → length (l .loop .matches) ≡ length (start l .args .matches .now)
+same-marks l = ap length (l .loop .inv .1) ∙ length-marked _ _
+
+marks : (k : tie.After-address Inv-loop μ-loop) → k .address .result .0 / 64 < length (turn k .loop .matches)
+marks k = let s = start (turn k) in omega (arith, stored k, matches-most _ (facts _ (s .pre .0)), same-marks (turn k), s .pre .2)
 
 loop-holds : tie.Need-loop-holds Inv-loop μ-loop
-loop-holds c = rw (c .first .ensures) (set-start _ _ _ _ _)
+loop-holds c = (c .before .length .ensures, rw (c .first .ensures) (set-start _ _ _ _ _))
 
-address-requires : tie.Need-address-requires Inv-loop μ-loop
-address-requires c κs = (search needs, search needs, inside c)
-
-shared-slice-read-if3 : tie.Need-shared-slice-read-if3 Inv-loop μ-loop
-shared-slice-read-if3 c = omega (arith, stored (c .before .before .before))
-
-set-bit-requires : tie.Need-set-bit-requires Inv-loop μ-loop
-set-bit-requires c κs = (marks (c .before .before .before), omega arith)
+word-requires : tie.Need-word-requires Inv-loop μ-loop
+word-requires c κs = let k = c .before .before in omega (arith, stored k, start (turn k) .pre .1)
 
 next-requires : tie.Need-next-requires Inv-loop μ-loop
 next-requires c κs =
-    let t = c .before .before .before .before in
-    omega (arith, inside t, facts _ (t .before .before .before .before .before .before .pre .0) .set-most)
-
-loop-less : tie.Need-loop-less Inv-loop μ-loop
-loop-less c = omega (arith, inside (c .before .before .before .before .before))
+    let k = c .before .before in
+    let s = start (turn k) in
+    omega (arith, inside (k .before), length-most _ (facts _ (s .pre .0)) (s .args .set .0))
 
 -- the bit is set, where the kind is another or the entry equal, or else is not
 loop-again : tie.Need-loop-again Inv-loop μ-loop
 loop-again c =
-    let n = c .before .before .before in
-    let at = n .before .before .before .before in
-    let s = at .before .before .before .before in
-    let g = s .args .g in
-    let store = s .args .store .now in
-    let key = s .args .key in
-    let a = n .number .result in
-    let step = set-step g store key _ _ _ a (n .number .ensures ∙ n .before .address .ensures) (inside (n .before .before)) _ (marks n) (at .loop .inv) in
-    let equal = chosen-equal g store key a (omega (arith, stored n)) in
-    rw (c .next .ensures)
-    (⊎-elim
-    (λ w. w .5 ∙ w .2 .ensures ∙ step true (⊎-elim (λ u. chosen-all g store key a (u .taken)) (λ u. equal (u .0 .left) ∙ u .2 .taken) (w .0 .came)))
-    (λ w. w .3 ∙ step false (equal (w .0 .left) ∙ w .2 .left))
-    (c .before .if2 .came))
-
-same-length : tie.Need-same-length Inv-loop μ-loop
-same-length c = ap length (c .before .before .loop .inv) ∙ length-marked _ _
+    let k = c .before .before .before in
+    let l = turn k in
+    let s = start l in
+    let t = tables (s .args .store .now) [] in
+    let step = set-step (s .args .g) t (s .args .key) _ _ (facts _ (s .pre .0)) _ _ (k .address .ensures) (inside (k .before)) _ (marks k) (l .loop .inv .1) in
+    let other = chosen-all (s .args .g) t (s .args .key) _ (stored k) in
+    let equal = chosen-equal (s .args .g) t (s .args .key) _ (stored k) in (
+      l .loop .inv .0,
+      rw (c .next .ensures)
+          (⊎-elim
+          (λ w. w .5 ∙ w .2 .ensures ∙ step true (⊎-elim (λ u. other (u .taken)) (λ u. equal _ (u .1 .ensures) (u .0 .left) ∙ u .2 .taken) (w .0 .came)))
+          (λ w. w .3 ∙ step false (equal _ (w .1 .ensures) (w .0 .left) ∙ w .2 .left))
+          (c .before .if2 .came)),
+    )
 
 returns : tie.Need-returns Inv-loop μ-loop
 returns c =
-    let at = c .before .before in
-    at .loop .inv ∙ set-end _ _ _ _ _ (facts _ (at .before .before .before .before .pre .0)) _ (ltb-false _ _ (sym (c .before .is-within .ensures) ∙ c .if1 .left))
+    let l = c .before .before in
+    l .loop .inv .1
+    ∙ set-end _ _ _ _ _ (facts _ (start l .pre .0)) _ (rw (← l .loop .inv .0) (ltb-false _ _ (sym (c .before .is-within .ensures) ∙ c .if1 .left)))
 
 pub take-set-spec : {M : Type 1} → statement M
 take-set-spec =
     tie.close
-    (tie.spec Inv-loop μ-loop (λ c κs. search needs) loop-holds (λ c κs. search needs) address-requires (λ c κs. search needs) (λ c. search needs)
-    (λ c. search needs) shared-slice-read-if3 (λ c. search needs) set-bit-requires next-requires loop-less loop-again same-length returns)
+    (tie.spec Inv-loop μ-loop (λ c κs. search needs) (λ c κs. search needs) loop-holds (λ c κs. search needs)
+    (λ c κs. (search needs, search needs, inside c)) word-requires (λ c κs. marks (c .before .before .before)) next-requires
+    (λ c. omega (arith, inside (c .before .before .before .before), c .next .ensures)) loop-again (λ c. same-marks (c .before .before)) returns)

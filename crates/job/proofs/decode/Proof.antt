@@ -4,27 +4,27 @@ use native.Mathlib.Omega.{arith}
 use borrow.Author.Needs.{needs}
 use borrow.Author.Tests.{ne-eqb}
 use Rattle.job.specs.Decoding.{decoded}
-use Rattle.job.proofs.Reading.{asks-write, asks-erase, asks-first-match, asks-all-match, asks-read, asks-clear, stray-clear}
+use Rattle.job.proofs.Reading.{by-fields, by-operation, stray-clear}
 use Rattle.job.proofs.decode.Statement.{statement}
 use Rattle.job.proofs.decode.Tie as tie
 
 returns : tie.Need-returns
-returns c m = asks-write m _ _ refl (omega arith) (omega arith)
+returns c m = by-fields m _ 1 _ refl (omega arith) (omega arith)
 
 returns-2 : tie.Need-returns-2
-returns-2 c m = asks-erase m _ _ (c .unless-stray .ensures m) (omega arith) (omega arith)
+returns-2 c m = by-fields m _ 2 _ (c .unless-stray .ensures m) (omega arith) (omega arith)
 
 returns-3 : tie.Need-returns-3
-returns-3 c m = asks-first-match m _ (c .unless-stray2 .ensures m) (omega arith)
+returns-3 c m = by-operation m _ 3 (c .unless-stray2 .ensures m) (omega arith)
 
 returns-4 : tie.Need-returns-4
-returns-4 c m = asks-all-match m _ (c .unless-stray3 .ensures m) (omega arith)
+returns-4 c m = by-operation m _ 4 (c .unless-stray3 .ensures m) (omega arith)
 
 returns-5 : tie.Need-returns-5
-returns-5 c m = asks-read m _ _ (c .unless-stray4 .ensures m) (omega arith) (omega arith)
+returns-5 c m = by-operation m _ 5 (rw (c .before .before .new .ensures) at (c .unless-stray4 .ensures m)) (omega arith)
 
 returns-6 : tie.Need-returns-6
-returns-6 c m = asks-clear m _ (c .unless-stray5 .ensures m) (omega arith) (omega arith)
+returns-6 c m = by-fields m _ 6 0 (c .unless-stray5 .ensures m) (omega arith) (omega arith)
 
 returns-7 : tie.Need-returns-7
 returns-7 c m = stray-clear m _ refl (omega arith) (omega arith)

@@ -25,7 +25,7 @@ decided : (k : tie.After-and-pattern) → let x = k .before .before .before .bef
     let t = tables (x .store .now) (x .indicators .now) in
     Decides (x .g) t (allMatch (x .key) (x .matches .now)) (k .and-pattern .result) (6 given-when anyIsFalse (x .g) t (x .key) ∷ [])
 unfolding ownRefusals
-decided k = rw (k .and-pattern .ensures, k .before .check-matches .ensures) (pattern-decides _ (matches-decide _ _ _ _))
+decided k = pattern-decides _ (k .and-pattern .ensures) (matches-decide _ _ _ _ (k .before .check-matches .ensures))
 
 -- the lengths, where the check accepted
 lent-at : (k : tie.After-checked) → let x = k .before .before .before .before .before .before .before .args in

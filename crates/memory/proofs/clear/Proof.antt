@@ -15,7 +15,7 @@ use Rattle.memory.proofs.clear.Tie as tie
 decided : (k : tie.After-check-tables) → let x = k .before .before .before .args in
     Decides (x .g) (tables (x .store .now) (x .indicators .now)) clear (k .check-tables .result) []
 unfolding badMatches ownRefusals
-decided k = rw (k .check-tables .ensures) (tables-decide _ _ clear refl)
+decided k = tables-decide _ _ clear refl (k .check-tables .ensures)
 
 returns : tie.Need-returns
 unfolding outcome firstRefusal

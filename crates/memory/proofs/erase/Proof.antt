@@ -11,17 +11,24 @@ use Rattle.memory.proofs.Outcomes.{refused-left, replacing-left}
 use Rattle.memory.proofs.erase.Statement.{statement}
 use Rattle.memory.proofs.erase.Tie as tie
 
-decided : (k : tie.After-and-address) → let x = k .before .before .before .before .args in
+-- where the function starts
+abbrev start : tie.After-is-outside → tie.Start
+start k = k .before .before .before .before
+
+decided : (k : tie.After-and-row) → let x = start (k .before) .args in
     let t = tables (x .store .now) (x .indicators .now) in
-    Decides (x .g) t (erase (x .address .0)) (k .and-address .result) (5 given-when badEntry (x .g) t (x .address .0) ∷ [])
+    Decides (x .g) t (erase (x .address .0)) (k .and-row .result) (5 given-when badEntry (x .g) t (x .address .0) ∷ [])
 unfolding badMatches ownRefusals
-decided k = rw (k .and-address .ensures, k .before .check-tables .ensures) (address-decides _ (tables-decide _ _ (erase _) refl))
+decided k =
+    let o = k .before in
+    address-decides _ _ (o .is-outside .ensures) (k .and-row .ensures) (tables-decide _ _ (erase _) refl (o .before .check-tables .ensures))
 
 replace-requires : tie.Need-replace-requires
 replace-requires c κs =
     let k = c .before .before .before in
     let a = k .before .before in
-    (decided a .lent _ (k .checked .given .1), address-inside _ (a .before .before .before .before .args .g) _ _ (sym (a .and-address .ensures) ∙ k .checked .given .1))
+    let o = a .before in
+    (decided a .lent _ (k .checked .given .1), address-inside _ (start o .args .g) _ _ _ (o .is-outside .ensures) (sym (a .and-row .ensures) ∙ k .checked .given .1))
 
 returns : tie.Need-returns
 unfolding lent accepted
@@ -37,5 +44,5 @@ returns-2 c = let k = c .before in refused-left (decided (k .before .before)) (k
 pub erase-spec : {M : Type 1} → statement M
 erase-spec =
     tie.close
-    (tie.spec (λ c κs. search needs) (λ c κs. search needs) (λ c. search needs) replace-requires (λ c. search needs) (λ c. search needs)
+    (tie.spec (λ c κs. search needs) (λ c κs. search needs) (λ c κs. search needs) (λ c. search needs) replace-requires (λ c. search needs) (λ c. search needs)
     (λ c. search needs) returns returns-2)

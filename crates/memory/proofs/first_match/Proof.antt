@@ -16,7 +16,7 @@ decided : (k : tie.After-and-pattern) → let x = k .before .before .before .bef
     let t = tables (x .store .now) (x .indicators .now) in
     Decides (x .g) t (firstMatch (x .key)) (k .and-pattern .result) (6 given-when isFalse (firstFound (x .g) t (x .key)) ∷ [])
 unfolding badMatches ownRefusals
-decided k = rw (k .and-pattern .ensures, k .before .check-tables .ensures) (pattern-decides _ (tables-decide _ _ (firstMatch _) refl))
+decided k = pattern-decides _ (k .and-pattern .ensures) (tables-decide _ _ (firstMatch _) refl (k .before .check-tables .ensures))
 
 first-requires : tie.Need-first-requires
 first-requires c κs = let k = c .before in decided (k .before .before) .lent _ (k .checked .given .1)

@@ -12,20 +12,26 @@ use Rattle.memory.proofs.Outcomes.{refused-left, replacing-left}
 use Rattle.memory.proofs.write.Statement.{statement}
 use Rattle.memory.proofs.write.Tie as tie
 
-decided : (k : tie.After-and-pattern) → let x = k .before .before .before .before .before .args in
+-- where the function starts
+abbrev start : tie.After-is-outside → tie.Start
+start k = k .before .before .before .before
+
+decided : (k : tie.After-and-pattern) → let x = start (k .before .before) .args in
     let t = tables (x .store .now) (x .indicators .now) in
     Decides (x .g) t (write (x .address .0) (x .pattern)) (k .and-pattern .result) (5 given-when badEntry (x .g) t (x .address .0) ∷ [])
 unfolding badMatches ownRefusals
 decided k =
-    rw (k .and-pattern .ensures, k .before .and-address .ensures, k .before .before .check-tables .ensures)
-    (pattern-decides _ (address-decides _ (tables-decide _ _ (write _ _) refl)))
+    let o = k .before .before in
+    pattern-decides _ (k .and-pattern .ensures)
+    (address-decides _ _ (o .is-outside .ensures) (k .before .and-row .ensures) (tables-decide _ _ (write _ _) refl (o .before .check-tables .ensures)))
 
 replace-requires : tie.Need-replace-requires
 replace-requires c κs =
     let k = c .before .before .before in
     let p = k .before .before in
+    let o = p .before .before in
     let passed = row-accepted _ _ _ _ (sym (p .and-pattern .ensures) ∙ k .checked .given .1) .0 in
-    (decided p .lent _ (k .checked .given .1), address-inside _ (p .before .before .before .before .before .args .g) _ _ (sym (p .before .and-address .ensures) ∙ passed))
+    (decided p .lent _ (k .checked .given .1), address-inside _ (start o .args .g) _ _ _ (o .is-outside .ensures) (sym (p .before .and-row .ensures) ∙ passed))
 
 returns : tie.Need-returns
 unfolding lent accepted
@@ -41,5 +47,5 @@ returns-2 c = let k = c .before in refused-left (decided (k .before .before)) (k
 pub write-spec : {M : Type 1} → statement M
 write-spec =
     tie.close
-    (tie.spec (λ c κs. search needs) (λ c κs. search needs) (λ c κs. search needs) (λ c. search needs) replace-requires (λ c. search needs)
+    (tie.spec (λ c κs. search needs) (λ c κs. search needs) (λ c κs. search needs) (λ c κs. search needs) (λ c. search needs) replace-requires (λ c. search needs)
     (λ c. search needs) (λ c. search needs) returns returns-2)

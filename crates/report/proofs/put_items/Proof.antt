@@ -2,7 +2,7 @@
 use native.Mathlib.Omega.{arith}
 use lib.ListN.{length-append}
 use borrow.Author.Needs.{needs}
-use Rattle.report.specs.Figures.{ascii, places, decimal}
+use Rattle.report.specs.Figures.{ascii}
 use Rattle.report.specs.Lines.{ended, answerItems}
 use Rattle.report.proofs.Appending.{same-length, appended-more}
 use Rattle.report.proofs.put_items.Statement.{statement}
@@ -87,20 +87,21 @@ put-named-requires-3 c κs =
     let told = c .before .before .before in
     omega (arith, simp length-append at (rw (told .answer4 .given .1) at (told .before .before .before .before .pre)))
 
-put-bytes-requires-2 : tie.Need-put-bytes-requires-2
-unfolding ascii places decimal ended answerItems
-put-bytes-requires-2 c κs =
+put-last-requires-3 : tie.Need-put-last-requires-3
+unfolding ascii ended answerItems
+put-last-requires-3 c κs =
     let words = c .before .before .before .before in
     let told = words .before .before .before .before in
-    omega
-    (arith, simp length-append at (rw (told .answer4 .given .1) at (told .before .before .before .before .pre)), same-length (words .put-named3 .ensures))
+    simp length-append
+    (omega
+    (arith, simp length-append at (rw (told .answer4 .given .1) at (told .before .before .before .before .pre)), same-length (words .put-named3 .ensures)))
 
 returns-5 : tie.Need-returns-5
-unfolding ascii places decimal ended answerItems
+unfolding ascii ended answerItems
 returns-5 c =
     let entries = c .before .before in
     let words = entries .before .before .before .before .before in
-    rw (words .before .before .before .before .answer4 .given .1) (appended-more (words .put-named3 .ensures) (entries .put-bytes2 .ensures))
+    rw (words .before .before .before .before .answer4 .given .1) (appended-more (words .put-named3 .ensures) (entries .put-last3 .ensures))
 
 -- a match word
 put-named-requires-4 : tie.Need-put-named-requires-4
@@ -131,6 +132,6 @@ put-items-spec =
     put-bytes-requires (λ c. search needs) put-entry-requires (λ c. search needs) (λ c. search needs) (λ c κs. search needs)
     put-named-requires (λ c. search needs) (λ c. search needs) put-named-requires-2 (λ c. search needs) (λ c. search needs)
     put-last-requires-2 (λ c. search needs) (λ c. search needs) (λ c. search needs) put-named-requires-3 (λ c. search needs)
-    put-bytes-requires-2 (λ c. search needs) (λ c. search needs) put-named-requires-4 put-words-requires (λ c. search needs) returns
-    (λ c. search needs) returns-2 (λ c. search needs) returns-3 (λ c. search needs) returns-4 (λ c. search needs) returns-5
-    (λ c. search needs) returns-6)
+    (λ c. search needs) put-last-requires-3 (λ c. search needs) (λ c. search needs) put-named-requires-4 put-words-requires
+    (λ c. search needs) returns (λ c. search needs) returns-2 (λ c. search needs) returns-3 (λ c. search needs) returns-4 (λ c. search needs)
+    returns-5 (λ c. search needs) returns-6)

@@ -7,10 +7,11 @@ use mathlib.Core.Logic.{⊎-elim}
 use native.Mathlib.Omega.{arith}
 use lib.Dec.{eqb}
 use borrow.Author.Needs.{needs}
-use borrow.Author.Tests.{ltb-true, ltb-false, eq-eqb, ne-eqb}
+use borrow.Author.Tests.{ltb-true, ltb-false, eq-eqb, ne-eqb, not-true, not-false}
 use Rattle.geometry.specs.Valid.{segmented}
-use Rattle.geometry.specs.Sizes.{rowWords}
+use Rattle.geometry.specs.Sizes.{rowWords, setLength}
 use Rattle.geometry.proofs.Facts.{facts}
+use Rattle.geometry.proofs.Places.{length-most, length-pos}
 use Rattle.geometry.proofs.Bounds.{words-few}
 use Rattle.reference.specs.Search.{seekWord, seekEntry, answerOf}
 use Rattle.calls.specs.Answers.{tables}
@@ -19,122 +20,135 @@ use Rattle.search.proofs.first.Statement.{statement}
 use Rattle.search.proofs.first.Tie as tie
 
 abbrev Inv-loop : tie.InvT-loop
-Inv-loop g store indicators key words-read j word set entries-compared₀ at₀ entries-compared at =
+Inv-loop g store indicators key words-read word set length entries-compared₀ at₀ entries-compared at =
     let t = tables store indicators in
-    (at .0 ≤ g .«set_width») × (entries-compared ≡ at .0) × Named g t key (set .0) words-read
+    (length .0 ≡ setLength g (set .0)) × (at .0 ≤ setLength g (set .0)) × (entries-compared ≡ at .0) × Named g t key (set .0) words-read
     × (entriesFrom g t key (set .0) (at .0) entries-compared ≡ seekEntry g t key (set .0))
 
 abbrev μ-loop : tie.MeasureT-loop
-μ-loop g store indicators key words-read j word set entries-compared₀ at₀ entries-compared at = g .«set_width» - at .0
+μ-loop g store indicators key words-read word set length entries-compared₀ at₀ entries-compared at = setLength g (set .0) - at .0
 
 abbrev Inv-words : tie.InvT-words
 Inv-words g sizes store indicators key words-read₀ j₀ words-read j =
     let t = tables store indicators in
-    (j ≤ rowWords g) × (words-read ≡ j) × (wordsFrom g t key j words-read ≡ seekWord g t key)
+    (j .0 ≤ rowWords g) × (words-read ≡ j .0) × (wordsFrom g t key (j .0) words-read ≡ seekWord g t key)
 
 abbrev μ-words : tie.MeasureT-words
-μ-words g sizes store indicators key words-read₀ j₀ words-read j = rowWords g - j
+μ-words g sizes store indicators key words-read₀ j₀ words-read j = rowWords g - j .0
 
--- where the function starts, from a turn of the inner loop
-abbrev start : tie.At-loop Inv-loop μ-loop Inv-words μ-words → tie.Start Inv-loop μ-loop Inv-words μ-words
-start l = l .before .before .before .before .before .before .before .before .before .before .before .before .before
+-- where the function starts, the turn of the outer loop in which the inner one is, and the one in which the loop was left
+abbrev start : tie.At-words Inv-loop μ-loop Inv-words μ-words → tie.Start Inv-loop μ-loop Inv-words μ-words
+start w = w .before .before .before .before
+
+abbrev read-at : tie.After-lowest Inv-loop μ-loop Inv-words μ-words → tie.Then2 Inv-loop μ-loop Inv-words μ-words
+read-at c = c .before .before .before
+
+abbrev turn : tie.Then2 Inv-loop μ-loop Inv-words μ-words → tie.At-words Inv-loop μ-loop Inv-words μ-words
+turn c = c .before .before .before .before
+
+abbrev outer : tie.At-loop Inv-loop μ-loop Inv-words μ-words → tie.Start Inv-loop μ-loop Inv-words μ-words
+outer l = start (turn (read-at (l .before .before .before)))
+
+abbrev left-at : tie.After-stop Inv-loop μ-loop Inv-words μ-words → tie.At-words Inv-loop μ-loop Inv-words μ-words
+left-at c = c .before .before .before .before
 
 words-holds : tie.Need-words-holds Inv-loop μ-loop Inv-words μ-words
-words-holds c = (search needs, search needs, words-start _ _ _)
+words-holds c = rw (c .first .ensures) (search needs, refl, words-start _ _ _)
+
+-- the row has the word that is read
+word-inside : (c : tie.Else1 Inv-loop μ-loop Inv-words μ-words) → let w = c .before .before in w .words .j .0 < rowWords (start w .args .g)
+word-inside c =
+    let w = c .before .before in
+    rw (← start w .pre .sized .same-words) (ltb-true _ _ (sym (c .before .is-within .ensures) ∙ not-false _ (c .if1 .left)))
 
 add-words-read : tie.Need-add-words-read Inv-loop μ-loop Inv-words μ-words
 add-words-read c =
-    let s = c .before .before .before .before .before .before .pre .sized in
-    omega (arith, s .same-words, words-few _ (facts _ (s .is-valid)))
+    let w = c .before .before .before in
+    omega (arith, w .words .inv .1, word-inside (c .before), words-few _ (facts _ (start w .pre .sized .is-valid)))
 
 -- a row word that is not 0 is read
-word-read : (c : tie.Then2 Inv-loop μ-loop Inv-words μ-words) → let k = c .before .before .before .before in
-    let a = k .before .before .before .args in
-    AtWord (a .g) (tables (a .store .now) (a .indicators .now)) (a .key) (k .words .j) (c .before .joined .result) (k .words .words-read + 1)
+word-read : (c : tie.Then2 Inv-loop μ-loop Inv-words μ-words) → let w = turn c in
+    let a = start w .args in
+    AtWord (a .g) (tables (a .store .now) (a .indicators .now)) (a .key) (w .words .j .0) (c .before .joined .result) (w .words .words-read + 1)
 word-read c =
-    let k = c .before .before .before .before in
-    let s = k .before .before .before .pre .sized in
-    at-word _ _ _ _ _ (k .words .inv .2) _ (omega (arith, s .same-words)) (c .before .joined .ensures) (s .is-valid) (c .if2 .taken)
+    let w = turn c in
+    at-word _ _ _ _ _ (w .words .inv .2) _ (word-inside (c .before .before)) (c .before .joined .ensures) (start w .pre .sized .is-valid) (c .if2 .taken)
 
-of-bit-requires : tie.Need-of-bit-requires Inv-loop μ-loop Inv-words μ-words
-of-bit-requires c κs = let w = word-read (c .before .before .before) in (w .word-lt, rw (c .lowest-bit .ensures) (w .bit-lt))
+lowest-requires : tie.Need-lowest-requires Inv-loop μ-loop Inv-words μ-words
+lowest-requires c κs = word-read (c .before .before) .word-lt
 
 loop-holds : tie.Need-loop-holds Inv-loop μ-loop Inv-words μ-words
 loop-holds c =
-    let k = c .before .before in
-    let set = named (word-read (k .before .before .before)) (k .lowest-bit .ensures) (c .before .of-bit .ensures) in
-    (omega arith, omega arith, set, rw (c .first .ensures) (entries-start _ _ _ _))
+    let b = c .before .before in
+    rw (c .first2 .ensures) (c .before .length .ensures, omega arith, refl, named (word-read (read-at b)) (b .lowest .ensures), entries-start _ _ _ _)
 
-offset-inside : (c : tie.Then4 Inv-loop μ-loop Inv-words μ-words) → let l = c .before .before in l .loop .at .0 < start l .args .g .«set_width»
-offset-inside c = ltb-true _ _ (sym (c .before .is-within .ensures) ∙ c .if4 .taken)
+offset-inside : (c : tie.Then4 Inv-loop μ-loop Inv-words μ-words) → let l = c .before .before in
+    l .loop .at .0 < setLength (outer l .args .g) (l .before .before .before .lowest .result .0)
+offset-inside c = rw (← c .before .before .loop .inv .0) (ltb-true _ _ (sym (c .before .is-within2 .ensures) ∙ c .if4 .taken))
 
 address-requires : tie.Need-address-requires Inv-loop μ-loop Inv-words μ-words
-address-requires c κs = let l = c .before .before in (start l .pre .sized .is-valid, l .loop .inv .2 .inside, offset-inside c)
+address-requires c κs = let l = c .before .before in (outer l .pre .sized .is-valid, l .loop .inv .3 .inside, offset-inside c)
+
+-- few enough that no count wraps
+offset-few : (c : tie.Then4 Inv-loop μ-loop Inv-words μ-words) → c .before .before .loop .at .0 < 64
+offset-few c =
+    let l = c .before .before in
+    omega (arith, offset-inside c, length-most _ (facts _ (outer l .pre .sized .is-valid)) (l .before .before .before .lowest .result .0))
 
 add-entries-compared : tie.Need-add-entries-compared Inv-loop μ-loop Inv-words μ-words
-add-entries-compared c =
+add-entries-compared c = omega (arith, c .before .before .before .loop .inv .2, offset-few (c .before))
+
+word-requires : tie.Need-word-requires Inv-loop μ-loop Inv-words μ-words
+word-requires c κs =
     let l = c .before .before .before in
-    omega (arith, l .loop .inv .1, offset-inside (c .before), facts _ (start l .pre .sized .is-valid) .set-most)
-
-shared-slice-read-if5 : tie.Need-shared-slice-read-if5 Inv-loop μ-loop Inv-words μ-words
-shared-slice-read-if5 c =
-    let k = c .before .before .before in
-    let l = k .before .before in
-    address-inside (l .loop .inv .2) _ _ (l .loop .inv .3) (start l .pre .sized .is-valid) (start l .pre .entries) (offset-inside k) _
-    (c .before .number .ensures ∙ c .before .before .address .ensures)
-
-next-requires : tie.Need-next-requires Inv-loop μ-loop Inv-words μ-words
-next-requires c κs =
-    let k = c .before .before .before .before in
-    omega (arith, offset-inside k, facts _ (start (k .before .before) .pre .sized .is-valid) .set-most)
-
-loop-less : tie.Need-loop-less Inv-loop μ-loop Inv-words μ-words
-loop-less c = omega (arith, offset-inside (c .before .before .before .before .before), c .next .ensures)
+    address-inside (l .loop .inv .3) _ _ (l .loop .inv .4) (offset-inside (c .before)) _ (c .address .ensures) (outer l .pre .sized .is-valid) (outer l .pre .entries)
 
 loop-again : tie.Need-loop-again Inv-loop μ-loop Inv-words μ-words
 loop-again c =
-    let k = c .before .before .before .before .before in
-    let l = k .before .before in (
-      omega (arith, offset-inside k, c .next .ensures),
-      omega (arith, l .loop .inv .1, c .next .ensures),
-      l .loop .inv .2,
-      rw (c .next .ensures)
-          (entries-on (l .loop .inv .2) _ _ (l .loop .inv .3) (start l .pre .sized .is-valid) (start l .pre .entries) (offset-inside k) _
-          (c .before .before .before .number .ensures ∙ c .before .before .before .before .address .ensures) (c .before .if5 .left)),
+    let a = c .before .before .before in
+    let l = a .before .before .before in
+    rw (c .next .ensures) (
+      l .loop .inv .0,
+      omega (arith, offset-inside (a .before)),
+      omega (arith, l .loop .inv .2),
+      l .loop .inv .3,
+      entries-on (l .loop .inv .3) _ _ (l .loop .inv .4) (offset-inside (a .before)) _ (a .address .ensures) _ (c .before .before .word .ensures) (c .before .if5 .left),
     )
 
 words-again : tie.Need-words-again Inv-loop μ-loop Inv-words μ-words
 words-again c =
-    let k = c .before .before .before .before in
-    let s = k .before .before .before .pre .sized in
-    let inside : k .words .j < rowWords (k .before .before .before .args .g) = omega (arith, s .same-words) in
-    (omega arith, omega arith, words-on _ _ _ _ _ (k .words .inv .2) _ inside (c .before .joined .ensures) (c .if2 .left))
+    let j = c .before .before in
+    let w = j .before .before .before in
+    let inside = word-inside (j .before) in
+    rw (c .next2 .ensures) (omega arith, omega (arith, w .words .inv .1), words-on _ _ _ _ _ (w .words .inv .2) _ inside (j .joined .ensures) (c .before .if2 .left))
 
 -- By the four ways out of the loop: past the last row word, at a word, at an entry, past the entries. A way `w` has the places
--- that it comes through in their order (if1, joined, if2, _, if3, lowest-bit, of-bit, first, loop, is-within, if4, address,
--- number, _, if5), and at its end what `stop` is.
-stopped : (c : tie.Joined1 Inv-loop μ-loop Inv-words μ-words) → let a = c .before .before .before .before .before .args in
+-- that it comes through in their order (if1, joined, if2, _, if3, lowest, length, first, loop, is-within, if4, address, word,
+-- if5), and at its end what `stop` is.
+stopped : (c : tie.Joined1 Inv-loop μ-loop Inv-words μ-words) → let a = start (c .before .before) .args in
     Stopped (a .g) (tables (a .store .now) (a .indicators .now)) (a .key) (c .if1 .stop)
 stopped c =
     let k = c .before .before in
-    let p = k .before .before .before .pre in
-    let same : k .words .words-read + 1 - 1 ≡ k .words .j = omega arith in
+    let p = start k .pre in
     ⊎-elim
-    (λ w. rw (w .2) (λ e. words-over _ _ _ _ _ (k .words .inv .2) (omega (arith, p .sized .same-words, w .0 .taken)), λ some. absurd (some refl)))
+    (λ w. rw (w .2) (
+      λ e. words-over _ _ _ _ _ (k .words .inv .2) (rw (← p .sized .same-words) (ltb-false _ _ (sym (c .before .is-within .ensures) ∙ not-true _ (w .0 .taken)))),
+      λ some. absurd (some refl),
+    ))
     (⊎-elim
     (λ w. rw (w .6) (
       λ e. absurd (w .2 .taken e),
       λ some. (
-        omega arith,
-        rw same (word-read record { before = record { before = record { before = c .before; if1 = w .0 }; joined = w .1 }; if2 = w .2 }),
+        word-read record { before = record { before = record { before = c .before; if1 = w .0 }; joined = w .1 }; if2 = w .2 },
         ne-eqb _ _ (w .4 .taken),
       ),
     ))
     (⊎-elim
-    (λ w. rw (w .16, w .11 .ensures)
-    (entry-found (w .8 .inv .2) _ _ (w .8 .inv .3) (p .sized .is-valid) (p .entries) (ltb-true _ _ (sym (w .9 .ensures) ∙ w .10 .taken)) _
-    (w .12 .ensures ∙ w .11 .ensures) (eq-eqb _ _ (w .4 .left)) (w .14 .taken)))
-    (λ w. rw (w .12) (entries-over (w .8 .inv .2) _ _ (w .8 .inv .3) (eq-eqb _ _ (w .4 .left)) (ltb-false _ _ (sym (w .9 .ensures) ∙ w .10 .left))))))
+    (λ w. rw (w .15)
+    (entry-found (w .8 .inv .3) _ _ (w .8 .inv .4) (rw (← w .8 .inv .0) (ltb-true _ _ (sym (w .9 .ensures) ∙ w .10 .taken))) _ (w .11 .ensures)
+    (eq-eqb _ _ (w .4 .left)) _ (w .12 .ensures) (w .13 .taken)))
+    (λ w. rw (w .12)
+    (entries-over (w .8 .inv .3) _ _ (w .8 .inv .4) (eq-eqb _ _ (w .4 .left)) (rw (← w .8 .inv .0) (ltb-false _ _ (sym (w .9 .ensures) ∙ w .10 .left)))))))
     (c .if1 .came)
 
 returns : tie.Need-returns Inv-loop μ-loop Inv-words μ-words
@@ -146,32 +160,30 @@ returns c =
 
 -- the word at which the loop was left, where it is not 0
 word-left : (c : tie.Else6 Inv-loop μ-loop Inv-words μ-words) → let s = c .before .before in
-    let a = s .before .before .before .before .before .before .before .args in
-    let n = s .stop .given .0 .1 .0 in
-    (1 ≤ n) × AtWord (a .g) (tables (a .store .now) (a .indicators .now)) (a .key) (n - 1) (s .stop .given .0 .0) n × (eqb (a .g .kind) segmented ≡ false)
+    let a = start (left-at s) .args in
+    let x = s .stop .given .0 in
+    AtWord (a .g) (tables (a .store .now) (a .indicators .now)) (a .key) (x .1 .0 .0) (x .0) (x .1 .1 .0) × (eqb (a .g .kind) segmented ≡ false)
 word-left c = let s = c .before .before in (rw (s .stop .given .1) at (stopped (s .before .before))) .1 (c .if6 .left)
 
-sub-of-bit : tie.Need-sub-of-bit Inv-loop μ-loop Inv-words μ-words
-sub-of-bit c = word-left c .0
+lowest-requires-2 : tie.Need-lowest-requires-2 Inv-loop μ-loop Inv-words μ-words
+lowest-requires-2 c κs = word-left c .0 .word-lt
 
-of-bit-requires-2 : tie.Need-of-bit-requires-2 Inv-loop μ-loop Inv-words μ-words
-of-bit-requires-2 c κs = let w = word-left (c .before) .1 in (w .word-lt, rw (c .lowest-bit2 .ensures) (w .bit-lt))
-
+-- its set, whose first offset is within it
 address-requires-2 : tie.Need-address-requires-2 Inv-loop μ-loop Inv-words μ-words
 address-requires-2 c κs =
-    let k = c .before .before in
-    let ok = k .before .before .before .before .before .before .before .before .before .before .pre .sized .is-valid in
-    let set = named (word-left (k .before) .1) (k .lowest-bit2 .ensures) (c .before .of-bit2 .ensures) in
-    (ok, set .inside, omega (arith, c .first2 .ensures, facts _ ok .set-pos))
+    let k = c .before in
+    let ok = start (left-at (k .before .before .before)) .pre .sized .is-valid in
+    let set = named (word-left (k .before) .0) (k .lowest2 .ensures) in
+    (ok, set .inside, rw (c .first3 .ensures) (length-pos _ (facts _ ok) _ (set .inside)))
 
 returns-2 : tie.Need-returns-2 Inv-loop μ-loop Inv-words μ-words
 unfolding answerOf
 returns-2 c =
-    let k = c .before .before .before in
-    let ok = k .before .before .before .before .before .before .before .before .before .before .pre .sized .is-valid in
+    let k = c .before .before in
     let w = word-left (k .before) in
-    let set = named (w .1) (k .lowest-bit2 .ensures) (c .before .before .of-bit2 .ensures) in
-    rw (set-found set ok (w .2) _ _ (omega (arith, c .before .first2 .ensures, facts _ ok .set-pos)) (c .address2 .ensures))
+    let ok = start (left-at (k .before .before .before)) .pre .sized .is-valid in
+    let set = named (w .0) (k .lowest2 .ensures) in
+    rw (set-found set ok (w .1) _ _ (rw (c .before .first3 .ensures) (length-pos _ (facts _ ok) _ (set .inside))) (c .address2 .ensures))
 
 returns-3 : tie.Need-returns-3 Inv-loop μ-loop Inv-words μ-words
 unfolding answerOf
@@ -184,8 +196,9 @@ returns-4 c = rw (rw (c .enum-told .given .1) at (stopped (c .before .before)))
 pub first-spec : {M : Type 1} → statement M
 first-spec =
     tie.close
-    (tie.spec Inv-loop μ-loop Inv-words μ-words words-holds (λ c κs. search needs) add-words-read (λ c κs. search needs) of-bit-requires
-    (λ c κs. search needs) loop-holds (λ c κs. search needs) address-requires add-entries-compared (λ c κs. search needs) (λ c. search needs)
-    (λ c. search needs) shared-slice-read-if5 next-requires loop-less loop-again (λ c. search needs) (λ c. search needs) words-again
-    (λ c. search needs) returns sub-of-bit (λ c. search needs) (λ c κs. search needs) of-bit-requires-2 (λ c κs. search needs) address-requires-2
-    (λ c. search needs) (λ c. search needs) returns-2 returns-3 returns-4)
+    (tie.spec Inv-loop μ-loop Inv-words μ-words (λ c κs. search needs) words-holds (λ c κs. search needs)
+    (λ c κs. let inside = word-inside c in search needs) add-words-read lowest-requires (λ c κs. search needs) (λ c κs. search needs) loop-holds
+    (λ c κs. search needs) address-requires add-entries-compared word-requires (λ c κs. offset-few (c .before .before .before))
+    (λ c. omega (arith, offset-inside (c .before .before .before .before), c .next .ensures)) loop-again
+    (λ c κs. let w = c .before .before .before .before in omega (arith, word-inside (c .before .before), words-few _ (facts _ (start w .pre .sized .is-valid))))
+    (λ c. omega (arith, word-inside (c .before .before .before), c .next2 .ensures)) words-again (λ c. search needs) returns lowest-requires-2 (λ c κs. search needs) address-requires-2 (λ c. search needs) (λ c. search needs) returns-2 returns-3 returns-4)

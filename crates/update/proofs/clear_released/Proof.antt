@@ -4,7 +4,6 @@ use Prim.Native.Nat.{_-_, _≤_}
 use mathlib.Core.Path.{_∙_}
 use mathlib.Core.List.{[]}
 use mathlib.Core.Logic.{⊎-elim}
-use native.Mathlib.Omega.{arith}
 use lib.ListN.{length, drop}
 use borrow.Author.Needs.{needs}
 use Rattle.words.specs.Rules.{keep}
@@ -14,7 +13,7 @@ use Rattle.reference.specs.Image.{entryRows}
 use Rattle.reference.specs.Update.{change}
 use Rattle.calls.specs.Answers.{entryFor, tables}
 use Rattle.geometry.proofs.Stages.{rows-over}
-use Rattle.update.proofs.RowsChanged.{rows-first, Within, place-within, set-within, Left, change-first, change-none, change-end, givenUp, kept-by-next, others-decide, keep-end}
+use Rattle.update.proofs.RowsChanged.{rows-first, place-within, set-within, Left, change-first, change-none, change-end, givenUp, kept-by-next, others-decide, keep-end}
 use Rattle.update.proofs.clear_released.Statement.{statement}
 use Rattle.update.proofs.clear_released.Tie as tie
 
@@ -27,40 +26,33 @@ Inv-loop g sizes store indicators₀ address next pattern set k₀ indicators k 
 abbrev μ-loop : tie.MeasureT-loop
 μ-loop g sizes store indicators₀ address next pattern set k₀ indicators k = stages g - k
 
+-- where the function starts, from a turn
+abbrev start : tie.At-loop Inv-loop μ-loop → tie.Start Inv-loop μ-loop
+start at = at .before .before .before .before .before .before .before
+
 returns : tie.Need-returns Inv-loop μ-loop
 unfolding entryRows keep change
 returns c = rw (c .enum-told .given .1)
 
--- the word that a turn may change
-place : (c : tie.After-row Inv-loop μ-loop) → let at = c .before .before .before in let s = at .before .before .before .before .before .before .before in
-    Within (s .args .sizes) (c .row .result) (at .before .set .result .0) (length (at .loop .indicators))
-place c =
-    let at = c .before .before .before in
-    let k = at .before in
-    let s = k .before .before .before .before .before .before in
-    let inside = set-within _ (s .pre .0 .sized .is-valid) (s .pre .1) (k .set .ensures) in
-    place-within _ (s .pre .0) (at .loop .inv .1 .same-length) (c .before .if1 .taken) (c .row .ensures) inside
-
-mul-clear-bit : tie.Need-mul-clear-bit Inv-loop μ-loop
-mul-clear-bit c = omega (arith, place (c .before .before .before .before .before .before))
-
-add-clear-bit : tie.Need-add-clear-bit Inv-loop μ-loop
-add-clear-bit c = omega (arith, place (c .before .before .before .before .before .before .before))
-
 clear-bit-requires : tie.Need-clear-bit-requires Inv-loop μ-loop
-clear-bit-requires c κs = omega (arith, place (c .before .before .before .before .before .before .before .before))
+clear-bit-requires c κs =
+    let r = c .before .before .before .before .before in
+    let at = r .before .before .before in
+    let s = start at in
+    let inside = set-within _ (s .pre .0 .sized .is-valid) (s .pre .1) (at .before .set .ensures) in
+    place-within _ (s .pre .0) (at .loop .inv .1 .same-length) (r .before .if1 .taken) (r .row .ensures) inside
 
 loop-again : tie.Need-loop-again Inv-loop μ-loop
 loop-again c =
     let r = c .before .before in
     let at = r .before .before .before in
     let h = at .loop .inv .1 in
-    let z = at .before .before .before .before .before .before .before .pre .0 .sized in
+    let z = start at .pre .0 .sized in
     let cut = rows-first _ _ _ (r .row .ensures) (search needs) in
     let next = c .before .is-covered-by .ensures in (
       search needs,
       ⊎-elim
-          (λ w. change-first h z (others-decide _ _ _ _ cut next (w .0 .taken) (w .1 .ensures) (w .2 .taken)) (w .5 .ensures) (w .6 .ensures) (w .10 ∙ w .7 .ensures))
+          (λ w. change-first h z (others-decide _ _ _ _ cut next (w .0 .taken) (w .1 .ensures) (w .2 .taken)) (w .7 ∙ w .4 .ensures))
           (λ w. change-none h
           (⊎-elim (λ v. others-decide _ _ _ _ cut next (v .0 .taken) (v .1 .ensures) (v .2 .left)) (λ v. kept-by-next _ _ _ _ cut next (v .left)) (w .0 .came))
           (w .1))
@@ -79,5 +71,4 @@ pub clear-released-spec : {M : Type 1} → statement M
 clear-released-spec =
     tie.close
     (tie.spec Inv-loop μ-loop (λ c. search needs) (λ c. search needs) returns (λ c κs. search needs) (λ c. search needs) (λ c κs. search needs)
-    (λ c κs. search needs) (λ c κs. search needs) mul-clear-bit (λ c κs. search needs) add-clear-bit (λ c κs. search needs) clear-bit-requires
-    (λ c. search needs) (λ c. search needs) loop-again (λ c. search needs) returns-2)
+    (λ c κs. search needs) (λ c κs. search needs) clear-bit-requires (λ c. search needs) (λ c. search needs) loop-again (λ c. search needs) returns-2)

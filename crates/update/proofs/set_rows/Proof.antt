@@ -1,7 +1,6 @@
 -- `update::set_rows` meets its contract. The invariant: the rows from stage k on, set in the indicators as they are,
 -- make what all rows make of them as they were.
 use Prim.Native.Nat.{_-_, _≤_}
-use native.Mathlib.Omega.{arith}
 use lib.ListN.{length, drop}
 use borrow.Author.Needs.{needs}
 use Rattle.words.specs.Bits.{setBit}
@@ -9,7 +8,7 @@ use Rattle.geometry.specs.Stages.{stages, rowsOf}
 use Rattle.reference.specs.Image.{entryRows}
 use Rattle.reference.specs.Update.{change}
 use Rattle.geometry.proofs.Stages.{rows-over}
-use Rattle.update.proofs.RowsChanged.{rows-first, Within, place-within, Left, change-first, change-end}
+use Rattle.update.proofs.RowsChanged.{rows-first, place-within, Left, change-first, change-end}
 use Rattle.update.proofs.set_rows.Statement.{statement}
 use Rattle.update.proofs.set_rows.Tie as tie
 
@@ -21,35 +20,27 @@ Inv-loop g sizes indicators₀ set pattern k₀ indicators k =
 abbrev μ-loop : tie.MeasureT-loop
 μ-loop g sizes indicators₀ set pattern k₀ indicators k = stages g - k
 
+-- where the function starts, from a turn
+abbrev start : tie.At-loop Inv-loop μ-loop → tie.Start Inv-loop μ-loop
+start at = at .before .before .before .before .before
+
 returns : tie.Need-returns Inv-loop μ-loop
 unfolding entryRows change
 returns c = rw (c .enum-told .given .1)
 
--- the word that a turn changes
-place : (c : tie.After-row Inv-loop μ-loop) → let at = c .before .before .before in let s = at .before .before .before .before .before in
-    Within (s .args .sizes) (c .row .result) (s .args .set .0) (length (at .loop .indicators))
-place c =
-    let at = c .before .before .before in
-    let s = at .before .before .before .before .before in
-    place-within _ (s .pre .0) (at .loop .inv .1 .same-length) (c .before .if1 .taken) (c .row .ensures) (s .pre .1)
-
-mul-set-bit : tie.Need-mul-set-bit Inv-loop μ-loop
-mul-set-bit c = omega (arith, place (c .before .before))
-
-add-set-bit : tie.Need-add-set-bit Inv-loop μ-loop
-add-set-bit c = omega (arith, place (c .before .before .before))
-
 set-bit-requires : tie.Need-set-bit-requires Inv-loop μ-loop
-set-bit-requires c κs = omega (arith, place (c .before .before .before .before))
+set-bit-requires c κs =
+    let at = c .before .before .before .before in
+    let s = start at in
+    place-within _ (s .pre .0) (at .loop .inv .1 .same-length) (c .before .before .if1 .taken) (c .row .ensures) (s .pre .1)
 
 loop-again : tie.Need-loop-again Inv-loop μ-loop
 loop-again c =
     let b = c .before .before in
-    let r = b .before .before .before .before .before in
-    let at = r .before .before .before in
-    let z = at .before .before .before .before .before .pre .0 .sized in
+    let r = b .before in
+    let at = r .before .before .before .before in
     let cut = rows-first _ _ _ (r .row .ensures) (search needs) in
-    (search needs, change-first (at .loop .inv .1) z cut (b .before .before .word .ensures) (b .before .bit .ensures) (b .set-bit .ensures))
+    (search needs, change-first (at .loop .inv .1) (start at .pre .0 .sized) cut (b .set-bit .ensures))
 
 returns-2 : tie.Need-returns-2 Inv-loop μ-loop
 unfolding entryRows
@@ -60,5 +51,5 @@ returns-2 c =
 pub set-rows-spec : {M : Type 1} → statement M
 set-rows-spec =
     tie.close
-    (tie.spec Inv-loop μ-loop (λ c. search needs) (λ c. search needs) returns (λ c. search needs) (λ c κs. search needs) mul-set-bit (λ c κs. search needs)
-    add-set-bit (λ c κs. search needs) set-bit-requires (λ c. search needs) (λ c. search needs) loop-again (λ c. search needs) returns-2)
+    (tie.spec Inv-loop μ-loop (λ c. search needs) (λ c. search needs) returns (λ c. search needs) (λ c κs. search needs) set-bit-requires
+    (λ c. search needs) (λ c. search needs) loop-again (λ c. search needs) returns-2)

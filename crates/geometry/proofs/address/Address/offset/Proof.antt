@@ -1,8 +1,0 @@
--- `geometry::address::Address::offset` meets its contract: no set is without an address, so the divisor is not 0.
-use borrow.Author.Needs.{needs}
-use Rattle.geometry.proofs.Facts.{facts}
-use Rattle.geometry.proofs.address.Address.offset.Statement.{statement}
-use Rattle.geometry.proofs.address.Address.offset.Tie as tie
-
-pub offset-spec : {M : Type 1} → statement M
-offset-spec = tie.close (tie.spec (λ c. facts _ (c .before .before .pre) .set-pos) (λ c. search needs))

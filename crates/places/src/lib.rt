@@ -130,7 +130,9 @@ impl SetIndex {
         SetIndex(64 * at.0 as u32 + words::lowest_bit(word))
     }
 
+    // How many addresses it has. That it is a set of a valid geometry is shown as for `address`.
     pub fn length(self, g: Geometry) -> SetLength
+        requires { ⌜ (valid g ≡ true) × (self .0 < sets g) ⌝ }
         ensures { λ r. ⌜ r .0 ≡ setLength g (self .0) ⌝ }
     {
         SetLength(g.set_width)

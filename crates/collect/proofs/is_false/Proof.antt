@@ -1,6 +1,6 @@
 -- `collect::is_false` meets its contract. The invariant: no entry before `at` is the key.
 use Prim.Native.Nat.{_-_, _<_}
-use mathlib.Core.Path.{_≡_, sym, _∙_}
+use mathlib.Core.Path.{sym, _∙_}
 use native.Mathlib.Omega.{arith}
 use borrow.Author.Needs.{needs}
 use borrow.Author.Tests.{ltb-true, ltb-false}
@@ -13,14 +13,17 @@ use Rattle.collect.proofs.is_false.Statement.{statement}
 use Rattle.collect.proofs.is_false.Tie as tie
 
 abbrev Inv-loop : tie.InvT-loop
-Inv-loop g store set key length at₀ at = (length .0 ≡ setLength g (set .0)) × Nowhere (at .0) (equalAt g store key (set .0))
+Inv-loop g store set key length at₀ at = Nowhere (at .0) (equalAt g store key (set .0))
 
 abbrev μ-loop : tie.MeasureT-loop
 μ-loop g store set key length at₀ at = setLength g (set .0) - at .0
 
--- where the kind is tested, from a turn of the loop, and where the function starts
+-- from a turn of the loop, where the set's length is taken, where the kind is tested, and where the function starts
+abbrev measured : tie.At-loop Inv-loop μ-loop → tie.After-length Inv-loop μ-loop
+measured l = l .before .before
+
 abbrev tested : tie.At-loop Inv-loop μ-loop → tie.Else1 Inv-loop μ-loop
-tested l = l .before .before .before
+tested l = measured l .before
 
 abbrev start : tie.At-loop Inv-loop μ-loop → tie.Start Inv-loop μ-loop
 start l = tested l .before .before .before
@@ -29,7 +32,7 @@ returns : tie.Need-returns Inv-loop μ-loop
 returns c = other-kind _ _ _ _ (c .if1 .taken)
 
 within-at : (k : tie.Then2 Inv-loop μ-loop) → let l = k .before .before in l .loop .at .0 < setLength (start l .args .g) (start l .args .set .0)
-within-at k = rw (← k .before .before .loop .inv .0) (ltb-true _ _ (sym (k .before .is-within .ensures) ∙ k .if2 .taken))
+within-at k = rw (← measured (k .before .before) .length .ensures) (ltb-true _ _ (sym (k .before .is-within .ensures) ∙ k .if2 .taken))
 
 word-requires : tie.Need-word-requires Inv-loop μ-loop
 word-requires c κs =
@@ -52,16 +55,16 @@ loop-again c =
     let a = c .before .before .before in
     let l = a .before .before .before in
     let x = start l .args in
-    (l .loop .inv .0, entry-passed (x .g) (x .store .now) _ _ _ _ _ (a .address .ensures) (c .before .before .word .ensures) _ (l .loop .inv .1) (c .before .if3 .left) (c .next .ensures))
+    entry-passed (x .g) (x .store .now) _ _ _ _ _ (a .address .ensures) (c .before .before .word .ensures) _ (l .loop .inv) (c .before .if3 .left) (c .next .ensures)
 
 returns-3 : tie.Need-returns-3 Inv-loop μ-loop
 returns-3 c =
     let l = c .before .before in
-    no-entry _ _ _ _ (tested l .if1 .left) _ (rw (← l .loop .inv .0) (ltb-false _ _ (sym (c .before .is-within .ensures) ∙ c .if2 .left))) (l .loop .inv .1)
+    no-entry _ _ _ _ (tested l .if1 .left) _ (rw (← measured l .length .ensures) (ltb-false _ _ (sym (c .before .is-within .ensures) ∙ c .if2 .left))) (l .loop .inv)
 
 pub is-false-spec : {M : Type 1} → statement M
 is-false-spec =
     tie.close
-    (tie.spec Inv-loop μ-loop returns (λ c κs. search needs) (λ c κs. search needs) (λ c. (c .before .length .ensures, λ o l. absurd (omega arith)))
+    (tie.spec Inv-loop μ-loop returns (λ c κs. search needs) (λ c κs. search needs) (λ c o l. absurd (omega arith))
     (λ c κs. search needs) (λ c κs. (search needs, search needs, within-at c)) word-requires returns-2 next-requires
     (λ c. omega (arith, within-at (c .before .before .before .before), c .next .ensures)) loop-again returns-3)

@@ -19,21 +19,24 @@ use Rattle.collect.proofs.take_set.Tie as tie
 
 abbrev Inv-loop : tie.InvT-loop
 Inv-loop g store matches₀ set key length at₀ matches at =
-    (length .0 ≡ setLength g (set .0)) × (matches ≡ marked (takenBefore g (tables store []) key (set .0) (at .0)) matches₀)
+    matches ≡ marked (takenBefore g (tables store []) key (set .0) (at .0)) matches₀
 
 abbrev μ-loop : tie.MeasureT-loop
 μ-loop g store matches₀ set key length at₀ matches at = setLength g (set .0) - at .0
 
--- where the function starts, and the turn in which an address is found
+-- where the set's length is taken, where the function starts, and the turn in which an address is found
+abbrev measured : tie.At-loop Inv-loop μ-loop → tie.After-length Inv-loop μ-loop
+measured l = l .before .before
+
 abbrev start : tie.At-loop Inv-loop μ-loop → tie.Start Inv-loop μ-loop
-start l = l .before .before .before .before .before
+start l = measured l .before .before .before
 
 abbrev turn : tie.After-address Inv-loop μ-loop → tie.At-loop Inv-loop μ-loop
 turn k = k .before .before .before
 
 -- the offset of a turn is one of the set, its address one of the store, and the address has a bit of the match word
 inside : (k : tie.Then1 Inv-loop μ-loop) → let l = k .before .before in l .loop .at .0 < setLength (start l .args .g) (start l .args .set .0)
-inside k = rw (← k .before .before .loop .inv .0) (ltb-true _ _ (sym (k .before .is-within .ensures) ∙ k .if1 .taken))
+inside k = rw (← measured (k .before .before) .length .ensures) (ltb-true _ _ (sym (k .before .is-within .ensures) ∙ k .if1 .taken))
 
 stored : (k : tie.After-address Inv-loop μ-loop) → k .address .result .0 < start (turn k) .args .g .depth
 stored k =
@@ -41,13 +44,13 @@ stored k =
     omega (arith, k .address .ensures, address-lt (s .args .g) (facts _ (s .pre .0)) _ _ (s .pre .3) (inside (k .before)))
 
 same-marks : (l : tie.At-loop Inv-loop μ-loop) → length (l .loop .matches) ≡ length (start l .args .matches .now)
-same-marks l = ap length (l .loop .inv .1) ∙ length-marked _ _
+same-marks l = ap length (l .loop .inv) ∙ length-marked _ _
 
 marks : (k : tie.After-address Inv-loop μ-loop) → k .address .result .0 / 64 < length (turn k .loop .matches)
 marks k = let s = start (turn k) in omega (arith, stored k, matches-most _ (facts _ (s .pre .0)), same-marks (turn k), s .pre .2)
 
 loop-holds : tie.Need-loop-holds Inv-loop μ-loop
-loop-holds c = (c .before .length .ensures, rw (c .first .ensures) (set-start _ _ _ _ _))
+loop-holds c = rw (c .first .ensures) (set-start _ _ _ _ _)
 
 word-requires : tie.Need-word-requires Inv-loop μ-loop
 word-requires c κs = let k = c .before .before in omega (arith, stored k, start (turn k) .pre .1)
@@ -65,22 +68,20 @@ loop-again c =
     let l = turn k in
     let s = start l in
     let t = tables (s .args .store .now) [] in
-    let step = set-step (s .args .g) t (s .args .key) _ _ (facts _ (s .pre .0)) _ _ (k .address .ensures) (inside (k .before)) _ (marks k) (l .loop .inv .1) in
+    let step = set-step (s .args .g) t (s .args .key) _ _ (facts _ (s .pre .0)) _ _ (k .address .ensures) (inside (k .before)) _ (marks k) (l .loop .inv) in
     let other = chosen-all (s .args .g) t (s .args .key) _ (stored k) in
-    let equal = chosen-equal (s .args .g) t (s .args .key) _ (stored k) in (
-      l .loop .inv .0,
-      rw (c .next .ensures)
-          (⊎-elim
-          (λ w. w .5 ∙ w .2 .ensures ∙ step true (⊎-elim (λ u. other (u .taken)) (λ u. equal _ (u .1 .ensures) (u .0 .left) ∙ u .2 .taken) (w .0 .came)))
-          (λ w. w .3 ∙ step false (equal _ (w .1 .ensures) (w .0 .left) ∙ w .2 .left))
-          (c .before .if2 .came)),
-    )
+    let equal = chosen-equal (s .args .g) t (s .args .key) _ (stored k) in
+    rw (c .next .ensures)
+    (⊎-elim
+    (λ w. w .5 ∙ w .2 .ensures ∙ step true (⊎-elim (λ u. other (u .taken)) (λ u. equal _ (u .1 .ensures) (u .0 .left) ∙ u .2 .taken) (w .0 .came)))
+    (λ w. w .3 ∙ step false (equal _ (w .1 .ensures) (w .0 .left) ∙ w .2 .left))
+    (c .before .if2 .came))
 
 returns : tie.Need-returns Inv-loop μ-loop
 returns c =
     let l = c .before .before in
-    l .loop .inv .1
-    ∙ set-end _ _ _ _ _ (facts _ (start l .pre .0)) _ (rw (← l .loop .inv .0) (ltb-false _ _ (sym (c .before .is-within .ensures) ∙ c .if1 .left)))
+    l .loop .inv
+    ∙ set-end _ _ _ _ _ (facts _ (start l .pre .0)) _ (rw (← measured l .length .ensures) (ltb-false _ _ (sym (c .before .is-within .ensures) ∙ c .if1 .left)))
 
 pub take-set-spec : {M : Type 1} → statement M
 take-set-spec =

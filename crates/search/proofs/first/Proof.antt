@@ -22,7 +22,7 @@ use Rattle.search.proofs.first.Tie as tie
 abbrev Inv-loop : tie.InvT-loop
 Inv-loop g store indicators key words-read word set length entries-compared₀ at₀ entries-compared at =
     let t = tables store indicators in
-    (length .0 ≡ setLength g (set .0)) × (at .0 ≤ setLength g (set .0)) × (entries-compared ≡ at .0) × Named g t key (set .0) words-read
+    (at .0 ≤ setLength g (set .0)) × (entries-compared ≡ at .0) × Named g t key (set .0) words-read
     × (entriesFrom g t key (set .0) (at .0) entries-compared ≡ seekEntry g t key (set .0))
 
 abbrev μ-loop : tie.MeasureT-loop
@@ -36,7 +36,8 @@ Inv-words g sizes store indicators key words-read₀ j₀ words-read j =
 abbrev μ-words : tie.MeasureT-words
 μ-words g sizes store indicators key words-read₀ j₀ words-read j = rowWords g - j .0
 
--- where the function starts, the turn of the outer loop in which the inner one is, and the one in which the loop was left
+-- where the function starts, the turn of the outer loop in which the inner one is, where that takes the set's length, and the turn
+-- in which the loop was left
 abbrev start : tie.At-words Inv-loop μ-loop Inv-words μ-words → tie.Start Inv-loop μ-loop Inv-words μ-words
 start w = w .before .before .before .before
 
@@ -46,8 +47,11 @@ read-at c = c .before .before .before
 abbrev turn : tie.Then2 Inv-loop μ-loop Inv-words μ-words → tie.At-words Inv-loop μ-loop Inv-words μ-words
 turn c = c .before .before .before .before
 
+abbrev measured : tie.At-loop Inv-loop μ-loop Inv-words μ-words → tie.After-length Inv-loop μ-loop Inv-words μ-words
+measured l = l .before .before
+
 abbrev outer : tie.At-loop Inv-loop μ-loop Inv-words μ-words → tie.Start Inv-loop μ-loop Inv-words μ-words
-outer l = start (turn (read-at (l .before .before .before)))
+outer l = start (turn (read-at (measured l .before)))
 
 abbrev left-at : tie.After-stop Inv-loop μ-loop Inv-words μ-words → tie.At-words Inv-loop μ-loop Inv-words μ-words
 left-at c = c .before .before .before .before
@@ -77,42 +81,44 @@ word-read c =
 lowest-requires : tie.Need-lowest-requires Inv-loop μ-loop Inv-words μ-words
 lowest-requires c κs = word-read (c .before .before) .word-lt
 
+length-requires : tie.Need-length-requires Inv-loop μ-loop Inv-words μ-words
+length-requires c κs = (start (turn (read-at c)) .pre .sized .is-valid, named (word-read (read-at c)) (c .lowest .ensures) .inside)
+
 loop-holds : tie.Need-loop-holds Inv-loop μ-loop Inv-words μ-words
 loop-holds c =
     let b = c .before .before in
-    rw (c .first2 .ensures) (c .before .length .ensures, omega arith, refl, named (word-read (read-at b)) (b .lowest .ensures), entries-start _ _ _ _)
+    rw (c .first2 .ensures) (omega arith, refl, named (word-read (read-at b)) (b .lowest .ensures), entries-start _ _ _ _)
 
 offset-inside : (c : tie.Then4 Inv-loop μ-loop Inv-words μ-words) → let l = c .before .before in
-    l .loop .at .0 < setLength (outer l .args .g) (l .before .before .before .lowest .result .0)
-offset-inside c = rw (← c .before .before .loop .inv .0) (ltb-true _ _ (sym (c .before .is-within2 .ensures) ∙ c .if4 .taken))
+    l .loop .at .0 < setLength (outer l .args .g) (measured l .before .lowest .result .0)
+offset-inside c = rw (← measured (c .before .before) .length .ensures) (ltb-true _ _ (sym (c .before .is-within2 .ensures) ∙ c .if4 .taken))
 
 address-requires : tie.Need-address-requires Inv-loop μ-loop Inv-words μ-words
-address-requires c κs = let l = c .before .before in (outer l .pre .sized .is-valid, l .loop .inv .3 .inside, offset-inside c)
+address-requires c κs = let l = c .before .before in (outer l .pre .sized .is-valid, l .loop .inv .2 .inside, offset-inside c)
 
 -- few enough that no count wraps
 offset-few : (c : tie.Then4 Inv-loop μ-loop Inv-words μ-words) → c .before .before .loop .at .0 < 64
 offset-few c =
     let l = c .before .before in
-    omega (arith, offset-inside c, length-most _ (facts _ (outer l .pre .sized .is-valid)) (l .before .before .before .lowest .result .0))
+    omega (arith, offset-inside c, length-most _ (facts _ (outer l .pre .sized .is-valid)) (measured l .before .lowest .result .0))
 
 add-entries-compared : tie.Need-add-entries-compared Inv-loop μ-loop Inv-words μ-words
-add-entries-compared c = omega (arith, c .before .before .before .loop .inv .2, offset-few (c .before))
+add-entries-compared c = omega (arith, c .before .before .before .loop .inv .1, offset-few (c .before))
 
 word-requires : tie.Need-word-requires Inv-loop μ-loop Inv-words μ-words
 word-requires c κs =
     let l = c .before .before .before in
-    address-inside (l .loop .inv .3) _ _ (l .loop .inv .4) (offset-inside (c .before)) _ (c .address .ensures) (outer l .pre .sized .is-valid) (outer l .pre .entries)
+    address-inside (l .loop .inv .2) _ _ (l .loop .inv .3) (offset-inside (c .before)) _ (c .address .ensures) (outer l .pre .sized .is-valid) (outer l .pre .entries)
 
 loop-again : tie.Need-loop-again Inv-loop μ-loop Inv-words μ-words
 loop-again c =
     let a = c .before .before .before in
     let l = a .before .before .before in
     rw (c .next .ensures) (
-      l .loop .inv .0,
       omega (arith, offset-inside (a .before)),
-      omega (arith, l .loop .inv .2),
-      l .loop .inv .3,
-      entries-on (l .loop .inv .3) _ _ (l .loop .inv .4) (offset-inside (a .before)) _ (a .address .ensures) _ (c .before .before .word .ensures) (c .before .if5 .left),
+      omega (arith, l .loop .inv .1),
+      l .loop .inv .2,
+      entries-on (l .loop .inv .2) _ _ (l .loop .inv .3) (offset-inside (a .before)) _ (a .address .ensures) _ (c .before .before .word .ensures) (c .before .if5 .left),
     )
 
 words-again : tie.Need-words-again Inv-loop μ-loop Inv-words μ-words
@@ -145,10 +151,10 @@ stopped c =
     ))
     (⊎-elim
     (λ w. rw (w .15)
-    (entry-found (w .8 .inv .3) _ _ (w .8 .inv .4) (rw (← w .8 .inv .0) (ltb-true _ _ (sym (w .9 .ensures) ∙ w .10 .taken))) _ (w .11 .ensures)
+    (entry-found (w .8 .inv .2) _ _ (w .8 .inv .3) (rw (← w .6 .ensures) (ltb-true _ _ (sym (w .9 .ensures) ∙ w .10 .taken))) _ (w .11 .ensures)
     (eq-eqb _ _ (w .4 .left)) _ (w .12 .ensures) (w .13 .taken)))
     (λ w. rw (w .12)
-    (entries-over (w .8 .inv .3) _ _ (w .8 .inv .4) (eq-eqb _ _ (w .4 .left)) (rw (← w .8 .inv .0) (ltb-false _ _ (sym (w .9 .ensures) ∙ w .10 .left)))))))
+    (entries-over (w .8 .inv .2) _ _ (w .8 .inv .3) (eq-eqb _ _ (w .4 .left)) (rw (← w .6 .ensures) (ltb-false _ _ (sym (w .9 .ensures) ∙ w .10 .left)))))))
     (c .if1 .came)
 
 returns : tie.Need-returns Inv-loop μ-loop Inv-words μ-words
@@ -197,7 +203,7 @@ pub first-spec : {M : Type 1} → statement M
 first-spec =
     tie.close
     (tie.spec Inv-loop μ-loop Inv-words μ-words (λ c κs. search needs) words-holds (λ c κs. search needs)
-    (λ c κs. let inside = word-inside c in search needs) add-words-read lowest-requires (λ c κs. search needs) (λ c κs. search needs) loop-holds
+    (λ c κs. let inside = word-inside c in search needs) add-words-read lowest-requires length-requires (λ c κs. search needs) loop-holds
     (λ c κs. search needs) address-requires add-entries-compared word-requires (λ c κs. offset-few (c .before .before .before))
     (λ c. omega (arith, offset-inside (c .before .before .before .before), c .next .ensures)) loop-again
     (λ c κs. let w = c .before .before .before .before in omega (arith, word-inside (c .before .before), words-few _ (facts _ (start w .pre .sized .is-valid))))

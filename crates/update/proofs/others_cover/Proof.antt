@@ -28,8 +28,8 @@ in-set at = at .before .before .before
 abbrev start : tie.At-loop Inv-loop μ-loop → tie.Start Inv-loop μ-loop
 start at = in-set at .before .before
 
-loop-holds : tie.Need-loop-holds Inv-loop μ-loop
-loop-holds c o l = absurd (omega arith)
+length-requires : tie.Need-length-requires Inv-loop μ-loop
+length-requires c κs = let s = c .before .before in (s .pre .0 .is-valid, set-within _ (s .pre .0 .is-valid) (s .pre .2) (c .set .ensures))
 
 -- the offset of a turn is one of the set
 within : (c : tie.Then1 Inv-loop μ-loop) → let at = c .before .before in at .loop .at .0 < setLength (start at .args .g) (in-set at .set .result .0)
@@ -92,6 +92,6 @@ returns-2 c =
 pub others-cover-spec : {M : Type 1} → statement M
 others-cover-spec =
     tie.close
-    (tie.spec Inv-loop μ-loop (λ c κs. search needs) (λ c κs. search needs) (λ c κs. search needs) loop-holds (λ c κs. search needs) address-requires
+    (tie.spec Inv-loop μ-loop (λ c κs. search needs) length-requires (λ c κs. search needs) (λ c o l. absurd (omega arith)) (λ c κs. search needs) address-requires
     (λ c κs. search needs) (λ c κs. looked (c .before .before) .inside) (λ c κs. search needs) (λ c κs. search needs) returns next-requires loop-less
     loop-again returns-2)

@@ -1,4 +1,4 @@
--- The rules of a geometry at their boundaries, and its sizes there, computed: rows of two tables.
+-- The rules of a geometry at their boundaries, its sizes there, and the rows of some patterns, computed: rows of three tables.
 use Prim.Native.Nat.{ℕ, _-_, _^_}
 use mathlib.Core.Path.{_≡_, refl}
 use mathlib.Core.Bool.{Bool, true, false}
@@ -68,3 +68,9 @@ sizes =
 pub sizes-hold : map (λ (r : Size). sizesOf (r .geometry)) sizes ≡ map (λ (r : Size). r .expected) sizes
 unfolding sets rowWords matchWords setLength stages stageWidth stage rowOf rowsOf rows indicatorWords tabulate
 sizes-hold = refl
+
+-- The rows of patterns whose stages differ: the lowest nine bits are stage 0.
+pub rows-hold : rowsOf (four 1 2 10 1) 514 ∷ rowsOf (four 1 2 27 1) 787457 ∷ rowsOf (four 0 2 12 1) 3000 ∷ rowsOf (four 2 2 12 1) 3001 ∷ []
+    ≡ (2 ∷ 513 ∷ []) ∷ (1 ∷ 514 ∷ 1027 ∷ []) ∷ (3000 ∷ []) ∷ (3001 ∷ []) ∷ []
+unfolding stages stageWidth stage rowOf rowsOf tabulate
+rows-hold = refl

@@ -157,4 +157,9 @@ trials =
     ∷ answers-with (alone 0) (E ∷ E ∷ E ∷ E ∷ []) (0 ∷ 4 ∷ []) (allMatch 1 (9 ∷ [])) (matched (4 ∷ []) 1) (4 ∷ [])
     ∷ answers-with (alone 2) (E ∷ E ∷ 1 ∷ E ∷ []) (0 ∷ 4 ∷ []) (firstMatch 1) (at 2 1 1) []
     ∷ refuses (alone 2) (E ∷ E ∷ E ∷ E ∷ []) (0 ∷ 4 ∷ []) (firstMatch 1) 6 []
+    -- rows of two words: word 1 of row 1 is number 3; a match word of two
+    ∷ writes deep (replicate 65 E) zeros (write 64 1) (held empty) (set (replicate 65 E) 64 1) (0 ∷ 0 ∷ 0 ∷ 1 ∷ [])
+    ∷ answers-with deep (replicate 65 E) (0 ∷ 0 ∷ 2 ∷ 1 ∷ []) (allMatch 1 (9 ∷ 9 ∷ [])) (matched (2 ∷ 1 ∷ []) 2) (2 ∷ 1 ∷ [])
+    -- kind 1: 514 is row 2 of stage 0 and row 1 of stage 1, which begins at word 512
+    ∷ writes K (E ∷ E ∷ []) (replicate 514 0) (write 1 514) (held empty) (E ∷ 514 ∷ []) (set (set (replicate 514 0) 2 2) 513 2)
     ∷ []

@@ -6,8 +6,7 @@ ghost use lib.Count.{trailingZeros};
 ghost use Rattle.words.specs.Rules.{count};
 ghost use Rattle.words.specs.Bits.{bit, setBit, clearBit, changeBit, rowMask, totalOnes};
 
-// Bit `bit` of word `at` becomes 1. A call that changes a table shows that the table has that word, and that the bit is
-// one of a word.
+// Bit `bit` of word `at` becomes 1. The address or the set whose bit it is shows what is asked, with what it was asked itself.
 pub fn set_bit(words: &mut [u64], at: usize, bit: u32)
     requires { ⌜ (at < length (now words)) × (bit < 64) ⌝ }
     ensures { λ r. ⌜ now (words .exit) ≡ changeBit setBit (now (words .entry)) at bit ⌝ }
@@ -23,7 +22,7 @@ pub fn clear_bit(words: &mut [u64], at: usize, bit: u32)
     words[at] = without_bit(words[at], bit);
 }
 
-// A word with bit `bit` cleared. The walk over the set bits of a word shows what is asked: the bit is the word's lowest.
+// A word with bit `bit` cleared. A set shows what is asked, of its bit in a word of a row.
 pub fn without_bit(word: u64, bit: u32) -> u64
     requires { ⌜ bit < 64 ⌝ }
     ensures { λ r. ⌜ r ≡ clearBit word bit ⌝ }

@@ -2,7 +2,7 @@
 // Only this file makes them or takes them apart. Sets and offsets hand out no number, so that anywhere else one cannot be
 // taken for another, added to it or compared with it. An address takes a caller's number and hands out its own for an answer
 // (`Address::new`, `number`), and a set takes a caller's number for the line (`SetIndex::from_caller`); tests/types_apart says
-// which files may use these.
+// which files may use these. What no type tells apart are the words of a row and those of a match word.
 use geometry::Geometry;
 use geometry::Sizes;
 ghost use Prim.Native.Nat.{_+_, _*_, _/_, _%_, _<_};

@@ -78,7 +78,7 @@ impl Address {
 }
 
 // An address in the tables. The check of the call shows that the store has the depth's entries and the match word a bit for
-// each, and that the address is below the depth.
+// each, and that a caller's address is below the depth; one of a set is by the rule.
 impl Address {
     // Its word of the store.
     pub fn word(self, store: &[u32]) -> u32

@@ -8,11 +8,11 @@ use native.Mathlib.Numerals.{one-add}
 use native.Mathlib.Nat.{zero-add, add-zero, add-suc, add-assoc, le-of-suc-le-suc, eq-or-lt-of-le, mul-comm, div-add-mod}
 use native.Mathlib.Decide.{decLt}
 use native.Mathlib.Omega.{arith}
-use lib.Dec.{eqb}
+use lib.Dec.{eqb, ltb}
 use lib.Arith.{digits-div, digits-mod}
 use lib.ListN.{length, getD}
 use lib.Seq.{ext-getD}
-use borrow.Author.Tests.{eqb-true, eq-eqb}
+use borrow.Author.Tests.{eqb-true, eq-eqb, ltb-true, ltb-false}
 use Rattle.words.specs.Rules.{any, count, member, keep, tabulate, First, Nowhere}
 
 -- two tests that follow from each other are one
@@ -25,6 +25,14 @@ both-ways false false p q = refl
 pub refuted : (b : Bool) → (b ≡ true → ⊥) → b ≡ false
 refuted true h = absurd (h refl)
 refuted false h = refl
+
+-- what a loop finds by testing i against l, which is n
+module _ {i l n : ℕ} {r : Bool} (found : r ≡ ltb i l) (same : l ≡ n) where
+  pub tested-below : r ≡ true → i < n
+  tested-below e = rw (← same) (ltb-true i l (sym found ∙ e))
+
+  pub tested-past : r ≡ false → n ≤ i
+  tested-past e = rw (← same) (ltb-false i l (sym found ∙ e))
 
 -- a number is told by its quotient and its remainder
 pub digits-same : (n a s o : ℕ) → o < n → eqb a (n * s + o) ≡ (eqb (a / n) s && eqb (a % n) o)

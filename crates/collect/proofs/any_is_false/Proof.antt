@@ -1,10 +1,9 @@
 -- `collect::any_is_false` meets its contract. The invariant: no row word before j indicates a false set.
 use Prim.Native.Nat.{_-_, _<_}
-use mathlib.Core.Path.{sym, _∙_}
 use native.Mathlib.Omega.{arith}
 use borrow.Author.Needs.{needs}
-use borrow.Author.Tests.{ltb-true, ltb-false}
 use Rattle.words.specs.Rules.{Nowhere}
+use Rattle.words.proofs.Rules.{tested-below, tested-past}
 use Rattle.geometry.specs.Sizes.{rowWords}
 use Rattle.geometry.proofs.Facts.{facts}
 use Rattle.geometry.proofs.Bounds.{words-few}
@@ -25,7 +24,7 @@ start l = l .before .before .before .before
 
 -- the row has the word that is read
 inside : (k : tie.Then1 Inv-loop μ-loop) → let l = k .before .before in l .loop .j .0 < rowWords (start l .args .g)
-inside k = rw (← start (k .before .before) .pre .sized .same-words) (ltb-true _ _ (sym (k .before .is-within .ensures) ∙ k .if1 .taken))
+inside k = tested-below (k .before .is-within .ensures) (start (k .before .before) .pre .sized .same-words) (k .if1 .taken)
 
 word-is-false-requires : tie.Need-word-is-false-requires Inv-loop μ-loop
 word-is-false-requires c κs = (search needs, search needs, rw (c .joined .ensures) (joined-in-sets _ _ _ _))
@@ -51,7 +50,7 @@ returns-2 : tie.Need-returns-2 Inv-loop μ-loop
 returns-2 c =
     let l = c .before .before in
     let z = start l .pre .sized in
-    no-word _ _ _ _ (facts _ (z .is-valid)) _ (rw (← z .same-words) (ltb-false _ _ (sym (c .before .is-within .ensures) ∙ c .if1 .left))) (l .loop .inv)
+    no-word _ _ _ _ (facts _ (z .is-valid)) _ (tested-past (c .before .is-within .ensures) (z .same-words) (c .if1 .left)) (l .loop .inv)
 
 pub any-is-false-spec : {M : Type 1} → statement M
 any-is-false-spec =

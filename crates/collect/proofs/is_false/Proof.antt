@@ -1,10 +1,9 @@
 -- `collect::is_false` meets its contract. The invariant: no entry before `at` is the key.
 use Prim.Native.Nat.{_-_, _<_}
-use mathlib.Core.Path.{sym, _∙_}
 use native.Mathlib.Omega.{arith}
 use borrow.Author.Needs.{needs}
-use borrow.Author.Tests.{ltb-true, ltb-false}
 use Rattle.words.specs.Rules.{Nowhere}
+use Rattle.words.proofs.Rules.{tested-below, tested-past}
 use Rattle.geometry.specs.Sizes.{setLength}
 use Rattle.geometry.proofs.Facts.{facts}
 use Rattle.geometry.proofs.Places.{length-most, address-lt}
@@ -32,7 +31,7 @@ returns : tie.Need-returns Inv-loop μ-loop
 returns c = other-kind _ _ _ _ (c .if1 .taken)
 
 within-at : (k : tie.Then2 Inv-loop μ-loop) → let l = k .before .before in l .loop .at .0 < setLength (start l .args .g) (start l .args .set .0)
-within-at k = rw (← measured (k .before .before) .length .ensures) (ltb-true _ _ (sym (k .before .is-within .ensures) ∙ k .if2 .taken))
+within-at k = tested-below (k .before .is-within .ensures) (measured (k .before .before) .length .ensures) (k .if2 .taken)
 
 word-requires : tie.Need-word-requires Inv-loop μ-loop
 word-requires c κs =
@@ -60,7 +59,7 @@ loop-again c =
 returns-3 : tie.Need-returns-3 Inv-loop μ-loop
 returns-3 c =
     let l = c .before .before in
-    no-entry _ _ _ _ (tested l .if1 .left) _ (rw (← measured l .length .ensures) (ltb-false _ _ (sym (c .before .is-within .ensures) ∙ c .if2 .left))) (l .loop .inv)
+    no-entry _ _ _ _ (tested l .if1 .left) _ (tested-past (c .before .is-within .ensures) (measured l .length .ensures) (c .if2 .left)) (l .loop .inv)
 
 pub is-false-spec : {M : Type 1} → statement M
 is-false-spec =

@@ -1,11 +1,11 @@
 -- `collect::take_all` meets its contract. The invariant: of the sets of the row words before word j, what is taken is
 -- marked.
 use Prim.Native.Nat.{_-_, _<_}
-use mathlib.Core.Path.{_≡_, sym, ap, _∙_}
+use mathlib.Core.Path.{_≡_, ap, _∙_}
 use native.Mathlib.Omega.{arith}
 use lib.ListN.{length}
 use borrow.Author.Needs.{needs}
-use borrow.Author.Tests.{ltb-true, ltb-false}
+use Rattle.words.proofs.Rules.{tested-below, tested-past}
 use Rattle.geometry.specs.Sizes.{rowWords}
 use Rattle.geometry.proofs.Facts.{facts}
 use Rattle.geometry.proofs.Bounds.{words-few}
@@ -31,7 +31,7 @@ read-at t = t .before .before
 
 -- the row has the word that is read
 inside : (k : tie.Then1 Inv-loop μ-loop) → let l = k .before .before in l .loop .j .0 < rowWords (start l .args .g)
-inside k = rw (← start (k .before .before) .pre .0 .sized .same-words) (ltb-true _ _ (sym (k .before .is-within .ensures) ∙ k .if1 .taken))
+inside k = tested-below (k .before .is-within .ensures) (start (k .before .before) .pre .0 .sized .same-words) (k .if1 .taken)
 
 loop-holds : tie.Need-loop-holds Inv-loop μ-loop
 loop-holds c = rw (c .first .ensures) (all-start _ _ _ _ _)
@@ -61,7 +61,7 @@ returns c =
     let l = c .before .before in
     let z = start l .pre .0 .sized in
     l .loop .inv
-    ∙ all-end _ _ _ _ _ (facts _ (z .is-valid)) _ (rw (← z .same-words) (ltb-false _ _ (sym (c .before .is-within .ensures) ∙ c .if1 .left)))
+    ∙ all-end _ _ _ _ _ (facts _ (z .is-valid)) _ (tested-past (c .before .is-within .ensures) (z .same-words) (c .if1 .left))
 
 pub take-all-spec : {M : Type 1} → statement M
 take-all-spec =

@@ -1,13 +1,13 @@
 -- `collect::take_set` meets its contract. The invariant: the addresses of the set before the offset are marked.
 use Prim.Native.Nat.{_-_, _/_, _<_}
-use mathlib.Core.Path.{_≡_, sym, ap, _∙_}
+use mathlib.Core.Path.{_≡_, ap, _∙_}
 use mathlib.Core.Bool.{true, false}
 use mathlib.Core.List.{[]}
 use mathlib.Core.Logic.{⊎-elim}
 use native.Mathlib.Omega.{arith}
 use lib.ListN.{length}
 use borrow.Author.Needs.{needs}
-use borrow.Author.Tests.{ltb-true, ltb-false}
+use Rattle.words.proofs.Rules.{tested-below, tested-past}
 use Rattle.geometry.specs.Sizes.{setLength}
 use Rattle.geometry.proofs.Facts.{facts}
 use Rattle.geometry.proofs.Places.{length-most, address-lt, matches-most}
@@ -36,7 +36,7 @@ turn k = k .before .before .before
 
 -- the offset of a turn is one of the set, its address one of the store, and the address has a bit of the match word
 inside : (k : tie.Then1 Inv-loop μ-loop) → let l = k .before .before in l .loop .at .0 < setLength (start l .args .g) (start l .args .set .0)
-inside k = rw (← measured (k .before .before) .length .ensures) (ltb-true _ _ (sym (k .before .is-within .ensures) ∙ k .if1 .taken))
+inside k = tested-below (k .before .is-within .ensures) (measured (k .before .before) .length .ensures) (k .if1 .taken)
 
 stored : (k : tie.After-address Inv-loop μ-loop) → k .address .result .0 < start (turn k) .args .g .depth
 stored k =
@@ -81,7 +81,7 @@ returns : tie.Need-returns Inv-loop μ-loop
 returns c =
     let l = c .before .before in
     l .loop .inv
-    ∙ set-end _ _ _ _ _ (facts _ (start l .pre .0)) _ (rw (← measured l .length .ensures) (ltb-false _ _ (sym (c .before .is-within .ensures) ∙ c .if1 .left)))
+    ∙ set-end _ _ _ _ _ (facts _ (start l .pre .0)) _ (tested-past (c .before .is-within .ensures) (measured l .length .ensures) (c .if1 .left))
 
 pub take-set-spec : {M : Type 1} → statement M
 take-set-spec =

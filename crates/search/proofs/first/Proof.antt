@@ -1,13 +1,14 @@
 -- `search::first` meets its contract. The invariants: the search of the row words from j on, and the comparison of the
 -- entries from an offset on, end as the whole ones do. `stopped` says once what is known where the loop is left.
 use Prim.Native.Nat.{_+_, _-_, _<_, _≤_}
-use mathlib.Core.Path.{_≡_, refl, sym, _∙_}
+use mathlib.Core.Path.{_≡_, refl}
 use mathlib.Core.Bool.{false}
 use mathlib.Core.Logic.{⊎-elim}
 use native.Mathlib.Omega.{arith}
 use lib.Dec.{eqb}
 use borrow.Author.Needs.{needs}
-use borrow.Author.Tests.{ltb-true, ltb-false, eq-eqb, ne-eqb, not-true, not-false}
+use borrow.Author.Tests.{eq-eqb, ne-eqb, not-true, not-false}
+use Rattle.words.proofs.Rules.{tested-below, tested-past}
 use Rattle.geometry.specs.Valid.{segmented}
 use Rattle.geometry.specs.Sizes.{rowWords, setLength}
 use Rattle.geometry.proofs.Facts.{facts}
@@ -59,16 +60,17 @@ left-at c = c .before .before .before .before
 words-holds : tie.Need-words-holds Inv-loop μ-loop Inv-words μ-words
 words-holds c = rw (c .first .ensures) (search needs, refl, words-start _ _ _)
 
--- the row has the word that is read
+-- the row has the word that is read, and few enough that no count wraps
 word-inside : (c : tie.Else1 Inv-loop μ-loop Inv-words μ-words) → let w = c .before .before in w .words .j .0 < rowWords (start w .args .g)
 word-inside c =
     let w = c .before .before in
-    rw (← start w .pre .sized .same-words) (ltb-true _ _ (sym (c .before .is-within .ensures) ∙ not-false _ (c .if1 .left)))
+    tested-below (c .before .is-within .ensures) (start w .pre .sized .same-words) (not-false _ (c .if1 .left))
+
+word-few : (c : tie.Else1 Inv-loop μ-loop Inv-words μ-words) → c .before .before .words .j .0 < 64
+word-few c = omega (arith, word-inside c, words-few _ (facts _ (start (c .before .before) .pre .sized .is-valid)))
 
 add-words-read : tie.Need-add-words-read Inv-loop μ-loop Inv-words μ-words
-add-words-read c =
-    let w = c .before .before .before in
-    omega (arith, w .words .inv .1, word-inside (c .before), words-few _ (facts _ (start w .pre .sized .is-valid)))
+add-words-read c = omega (arith, c .before .before .before .words .inv .1, word-few (c .before))
 
 -- a row word that is not 0 is read
 word-read : (c : tie.Then2 Inv-loop μ-loop Inv-words μ-words) → let w = turn c in
@@ -91,12 +93,12 @@ loop-holds c =
 
 offset-inside : (c : tie.Then4 Inv-loop μ-loop Inv-words μ-words) → let l = c .before .before in
     l .loop .at .0 < setLength (outer l .args .g) (measured l .before .lowest .result .0)
-offset-inside c = rw (← measured (c .before .before) .length .ensures) (ltb-true _ _ (sym (c .before .is-within2 .ensures) ∙ c .if4 .taken))
+offset-inside c = tested-below (c .before .is-within2 .ensures) (measured (c .before .before) .length .ensures) (c .if4 .taken)
 
 address-requires : tie.Need-address-requires Inv-loop μ-loop Inv-words μ-words
 address-requires c κs = let l = c .before .before in (outer l .pre .sized .is-valid, l .loop .inv .2 .inside, offset-inside c)
 
--- few enough that no count wraps
+-- and there are few
 offset-few : (c : tie.Then4 Inv-loop μ-loop Inv-words μ-words) → c .before .before .loop .at .0 < 64
 offset-few c =
     let l = c .before .before in
@@ -138,7 +140,7 @@ stopped c =
     let p = start k .pre in
     ⊎-elim
     (λ w. rw (w .2) (
-      λ e. words-over _ _ _ _ _ (k .words .inv .2) (rw (← p .sized .same-words) (ltb-false _ _ (sym (c .before .is-within .ensures) ∙ not-true _ (w .0 .taken)))),
+      λ e. words-over _ _ _ _ _ (k .words .inv .2) (tested-past (c .before .is-within .ensures) (p .sized .same-words) (not-true _ (w .0 .taken))),
       λ some. absurd (some refl),
     ))
     (⊎-elim
@@ -151,10 +153,10 @@ stopped c =
     ))
     (⊎-elim
     (λ w. rw (w .15)
-    (entry-found (w .8 .inv .2) _ _ (w .8 .inv .3) (rw (← w .6 .ensures) (ltb-true _ _ (sym (w .9 .ensures) ∙ w .10 .taken))) _ (w .11 .ensures)
+    (entry-found (w .8 .inv .2) _ _ (w .8 .inv .3) (tested-below (w .9 .ensures) (w .6 .ensures) (w .10 .taken)) _ (w .11 .ensures)
     (eq-eqb _ _ (w .4 .left)) _ (w .12 .ensures) (w .13 .taken)))
     (λ w. rw (w .12)
-    (entries-over (w .8 .inv .2) _ _ (w .8 .inv .3) (eq-eqb _ _ (w .4 .left)) (rw (← w .6 .ensures) (ltb-false _ _ (sym (w .9 .ensures) ∙ w .10 .left)))))))
+    (entries-over (w .8 .inv .2) _ _ (w .8 .inv .3) (eq-eqb _ _ (w .4 .left)) (tested-past (w .9 .ensures) (w .6 .ensures) (w .10 .left))))))
     (c .if1 .came)
 
 returns : tie.Need-returns Inv-loop μ-loop Inv-words μ-words
@@ -206,5 +208,5 @@ first-spec =
     (λ c κs. let inside = word-inside c in search needs) add-words-read lowest-requires length-requires (λ c κs. search needs) loop-holds
     (λ c κs. search needs) address-requires add-entries-compared word-requires (λ c κs. offset-few (c .before .before .before))
     (λ c. omega (arith, offset-inside (c .before .before .before .before), c .next .ensures)) loop-again
-    (λ c κs. let w = c .before .before .before .before in omega (arith, word-inside (c .before .before), words-few _ (facts _ (start w .pre .sized .is-valid))))
+    (λ c κs. word-few (c .before .before))
     (λ c. omega (arith, word-inside (c .before .before .before), c .next2 .ensures)) words-again (λ c. search needs) returns lowest-requires-2 (λ c κs. search needs) address-requires-2 (λ c. search needs) (λ c. search needs) returns-2 returns-3 returns-4)

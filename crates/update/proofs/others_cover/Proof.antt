@@ -1,13 +1,13 @@
 -- `update::others_cover` meets its contract. The invariant: at no offset before `at` is another address that covers
 -- the row.
 use Prim.Native.Nat.{_-_, _<_}
-use mathlib.Core.Path.{sym, _∙_}
+use mathlib.Core.Path.{_∙_}
 use mathlib.Core.Logic.{⊎-elim}
 use native.Mathlib.Omega.{arith}
 use borrow.Author.Needs.{needs}
 use borrow.Author.Count.{below-more}
-use borrow.Author.Tests.{ltb-true, ltb-false}
 use Rattle.words.specs.Rules.{Nowhere}
+use Rattle.words.proofs.Rules.{tested-below, tested-past}
 use Rattle.geometry.specs.Sizes.{setLength}
 use Rattle.geometry.proofs.Facts.{facts}
 use Rattle.geometry.proofs.Places.{length-most}
@@ -21,9 +21,12 @@ Inv-loop g sizes store address row set length at₀ at = Nowhere (at .0) (otherC
 abbrev μ-loop : tie.MeasureT-loop
 μ-loop g sizes store address row set length at₀ at = setLength g (set .0) - at .0
 
--- the set, and where the function starts, from a turn
+-- the set's length, the set, and where the function starts, from a turn
+abbrev measured : tie.At-loop Inv-loop μ-loop → tie.After-length Inv-loop μ-loop
+measured at = at .before .before
+
 abbrev in-set : tie.At-loop Inv-loop μ-loop → tie.After-set Inv-loop μ-loop
-in-set at = at .before .before .before
+in-set at = measured at .before
 
 abbrev start : tie.At-loop Inv-loop μ-loop → tie.Start Inv-loop μ-loop
 start at = in-set at .before .before
@@ -33,7 +36,7 @@ length-requires c κs = let s = c .before .before in (s .pre .0 .is-valid, set-w
 
 -- the offset of a turn is one of the set
 within : (c : tie.Then1 Inv-loop μ-loop) → let at = c .before .before in at .loop .at .0 < setLength (start at .args .g) (in-set at .set .result .0)
-within c = rw (← c .before .before .before .before .length .ensures) (ltb-true _ _ (sym (c .before .is-within .ensures) ∙ c .if1 .taken))
+within c = tested-below (c .before .is-within .ensures) (measured (c .before .before) .length .ensures) (c .if1 .taken)
 
 address-requires : tie.Need-address-requires Inv-loop μ-loop
 address-requires c κs =
@@ -86,8 +89,7 @@ loop-again c =
 returns-2 : tie.Need-returns-2 Inv-loop μ-loop
 returns-2 c =
     let at = c .before .before in
-    let past = ltb-false _ _ (sym (c .before .is-within .ensures) ∙ c .if1 .left) in
-    others-none _ _ _ _ _ (rw (← in-set at .set .ensures, ← at .before .before .length .ensures) past) (at .loop .inv)
+    others-none _ _ _ _ _ (rw (← in-set at .set .ensures) (tested-past (c .before .is-within .ensures) (measured at .length .ensures) (c .if1 .left))) (at .loop .inv)
 
 pub others-cover-spec : {M : Type 1} → statement M
 others-cover-spec =

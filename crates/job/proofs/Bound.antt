@@ -18,7 +18,7 @@ use Rattle.geometry.proofs.Facts.{Facts, facts, patterns-most, kind-most}
 use Rattle.geometry.proofs.Bounds.{words-few}
 use Rattle.geometry.proofs.Places.{length-most, offset-lt, matches-least}
 use Rattle.reference.specs.Calls.{Call, clear, write, erase, read, firstMatch, allMatch, held}
-use Rattle.reference.specs.Refusals.{RefusalRow, _given-when_, firstRefusal}
+use Rattle.machines.specs.Refusals.{RefusalRow, _given-when_, firstRefusal}
 use Rattle.reference.specs.Array.{Array, emptied, entryAt, Sound, lowest, counted, matchesOf, arrayRefusals, arrayAccepted, arrayOutcome, arrayStep}
 use Rattle.reference.proofs.Lowest.{holding, LowestIs, at-first, at-none, lowest-is, hits-are}
 use Rattle.reference.proofs.Emptied.{emptied-sound}

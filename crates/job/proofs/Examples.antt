@@ -7,7 +7,8 @@ use Rattle.geometry.specs.Valid.{valid}
 use Rattle.geometry.specs.Sizes.{patterns, sets, rowWords, matchWords}
 use Rattle.geometry.specs.Stages.{stages, stageWidth, rows, indicatorWords}
 use Rattle.reference.specs.Entry.{holds}
-use Rattle.reference.specs.Refusals.{firstRefusal, badAddress, badPattern}
+use Rattle.machines.specs.Refusals.{firstRefusal}
+use Rattle.reference.specs.Refusals.{badAddress, badPattern}
 use Rattle.reference.specs.Array.{emptied, lowest, counted, matchesOf, hits, arrayRefusals, arrayAccepted, arrayOutcome, arrayStep}
 use Rattle.report.specs.Figures.{ascii, places, decimal, hexadecimal}
 use Rattle.report.specs.Lines.{ended, line, entryText, answerItems, answerLine, firstLine, stopLine}

@@ -12,7 +12,7 @@ use Rattle.geometry.specs.declared.Sizes.{Sizes}
 use Rattle.geometry.specs.Valid.{valid}
 use Rattle.geometry.specs.Checks.{sizesOf}
 use Rattle.reference.specs.Calls.{Call}
-use Rattle.reference.specs.Refusals.{firstRefusal}
+use Rattle.machines.specs.Refusals.{firstRefusal}
 use Rattle.report.specs.Figures.{Bytes}
 use Rattle.job.specs.declared.Command.{Command}
 use Rattle.job.specs.declared.Opened.{Opened}

@@ -8,7 +8,7 @@ use lib.ListN.{length, getD}
 use Rattle.geometry.specs.declared.Geometry.{Geometry}
 use Rattle.geometry.specs.Valid.{valid}
 use Rattle.geometry.specs.Stages.{indicatorWords}
-use Rattle.reference.specs.Refusals.{RefusalRow, _given-when_, firstRefusal}
+use Rattle.machines.specs.Refusals.{RefusalRow, _given-when_, firstRefusal}
 use Rattle.report.specs.Figures.{Bytes}
 use Rattle.job.specs.declared.Header.{Header}
 use Rattle.job.specs.declared.Command.{Command}

@@ -5,7 +5,7 @@ use mathlib.Core.List.{List}
 use mathlib.Core.Option.{Option, none, some}
 use Rattle.geometry.specs.Checks.{sizesOf}
 use Rattle.reference.specs.Calls as calls
-use Rattle.reference.specs.Refusals.{RefusalRow, firstRefusal}
+use Rattle.machines.specs.Refusals.{RefusalRow, firstRefusal}
 use Rattle.calls.specs.Answers.{callFor}
 use Rattle.job.specs.declared.Header.{Header}
 use Rattle.job.specs.declared.Stop.{Stop}

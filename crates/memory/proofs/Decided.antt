@@ -19,7 +19,8 @@ use Rattle.geometry.specs.Sizes.{matchWords}
 use Rattle.geometry.specs.Checks.{numberOf, sizesOf, checked, andRow, tablesFit, checkedTables, checkedMatches, andPattern}
 use Rattle.geometry.proofs.Acceptance.{never, row-accepted}
 use Rattle.reference.specs.Calls.{Call, allMatch}
-use Rattle.reference.specs.Refusals.{RefusalRow, _given-when_, firstRefusal, badAddress, badPattern}
+use Rattle.machines.specs.Refusals.{RefusalRow, _given-when_, firstRefusal}
+use Rattle.reference.specs.Refusals.{badAddress, badPattern}
 use Rattle.reference.specs.Tables.{Tables}
 use Rattle.reference.specs.Steps.{badLengths, badMatches, ownRefusals, refusals, outcome, step}
 use Rattle.calls.specs.Passed.{Lent}

@@ -14,7 +14,7 @@ use Rattle.geometry.specs.declared.Checked.the-variants as check
 use Rattle.geometry.specs.Sizes.{matchWords}
 use Rattle.reference.specs.Entry.{Entry, emptyWord}
 use Rattle.reference.specs.Calls.{Call, clear, read, firstMatch, allMatch, refused, held, lent}
-use Rattle.reference.specs.Refusals.{RefusalRow, _given-when_, firstRefusal}
+use Rattle.machines.specs.Refusals.{RefusalRow, _given-when_, firstRefusal}
 use Rattle.reference.specs.Tables.{Tables, storeEntry}
 use Rattle.reference.specs.Update.{replaced}
 use Rattle.reference.specs.Search.{Found, hit, nothing, falseSet, isFalse, answerOf, firstFound, anyIsFalse, taken, takenWords}

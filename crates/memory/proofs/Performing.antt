@@ -7,7 +7,7 @@ use mathlib.Core.Option.{Option, none, some}
 use Rattle.geometry.specs.declared.Geometry.{Geometry}
 use Rattle.reference.specs.Calls as calls
 use Rattle.reference.specs.Calls.{clear, write, erase, read, firstMatch, allMatch, refused, cleared, held, at, matched, lent, matchesAfter}
-use Rattle.reference.specs.Refusals.{firstRefusal}
+use Rattle.machines.specs.Refusals.{firstRefusal}
 use Rattle.reference.specs.Tables.{Tables}
 use Rattle.reference.specs.Search.{Found, hit, nothing, falseSet, firstFound, answerOf}
 use Rattle.reference.specs.Steps.{Outcome, refusals, accepted, outcome, step}

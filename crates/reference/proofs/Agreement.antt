@@ -22,7 +22,8 @@ use Rattle.geometry.specs.Sizes.{patterns, matchWords}
 use Rattle.geometry.proofs.Facts.{Facts, facts}
 use Rattle.reference.specs.Entry.{Entry, empty, pattern, Fits, wordOf, holds}
 use Rattle.reference.specs.Calls.{Call, clear, write, erase, read, firstMatch, allMatch, shape, held, matched}
-use Rattle.reference.specs.Refusals.{RefusalRow, _given-when_, firstRefusal, Passed, badAddress, badPattern}
+use Rattle.machines.specs.Refusals.{RefusalRow, _given-when_, firstRefusal, Passed}
+use Rattle.reference.specs.Refusals.{badAddress, badPattern}
 use Rattle.reference.specs.Array as Array
 use Rattle.reference.specs.Array.{Array, entryAt, counted, matchesOf, hits, arrayRefusals, ArrayOutcome, arrayAccepted, arrayOutcome, arrayStep, Sound}
 use Rattle.reference.specs.Tables.{storeWord}
@@ -37,15 +38,8 @@ use Rattle.reference.proofs.Mirrored.{first-is, first-not-false, none-f
 use Rattle.reference.proofs.Searched.{first-any, taken-counted}
 use Rattle.reference.proofs.Image.{store-word, store-entry, image-mirrors, replaced-image}
 use Rattle.reference.proofs.Lowest.{holding, LowestIs, at-first, at-none, lowest-is, hits-are}
-use Rattle.reference.proofs.Refused.{passes}
+use Rattle.machines.proofs.Refusals.{passes, last-passes}
 use Rattle.reference.proofs.Emptied.{emptied-sound, cleared-tables}
-
--- a last row that does not apply
-last-passes : (rows : List RefusalRow) (n : ℕ) → firstRefusal (rows ++ (n given-when false ∷ [])) ≡ firstRefusal rows
-unfolding firstRefusal
-last-passes [] n = refl
-last-passes ((m given-when true) ∷ rows) n = refl
-last-passes ((m given-when false) ∷ rows) n = last-passes rows n
 
 -- a last row that does not apply where the pattern's row does not
 key-passes : (g : Geometry) (key n : ℕ) (test : Bool) → (key < patterns g → test ≡ false) → (rows : List RefusalRow)

@@ -11,7 +11,8 @@ use Rattle.geometry.specs.Sizes.{patterns, sets, rowWords, matchWords, setLengt
 use Rattle.geometry.specs.Stages.{stages, stageWidth, stage, rowOf, rowsOf, rows, indicatorWords}
 use Rattle.reference.specs.Entry.{wordOf, entryOf}
 use Rattle.reference.specs.Calls.{lent}
-use Rattle.reference.specs.Refusals.{firstRefusal, badAddress, badPattern}
+use Rattle.machines.specs.Refusals.{firstRefusal}
+use Rattle.reference.specs.Refusals.{badAddress, badPattern}
 use Rattle.reference.specs.Image.{entryRows, covers}
 use Rattle.reference.specs.Update.{change, othersCover, released, replaced}
 use Rattle.reference.specs.Search.{joined, indicated, seekWord, seekEntry, lowestSet, isFalse, inSet, firstFound, anyIsFalse, answerOf, taken, takenWords}

@@ -15,7 +15,7 @@ use Rattle.geometry.specs.Valid.{valid}
 use Rattle.geometry.proofs.Facts.{facts}
 use Rattle.reference.specs.Entry.{empty}
 use Rattle.reference.specs.Calls.{Call, clear, write, erase, read, firstMatch, allMatch, shape, lent, matchesAfter, Answer, refused, cleared}
-use Rattle.reference.specs.Refusals.{RefusalRow, _given-when_, firstRefusal, Passed, FirstApplies}
+use Rattle.machines.specs.Refusals.{firstRefusal, Passed, FirstApplies, Each}
 use Rattle.reference.specs.Array.{Array, emptied, arrayRefusals, arrayAccepted, arrayOutcome, arrayStep, Sound}
 use Rattle.reference.specs.Tables.{Tables, storeEntry}
 use Rattle.reference.specs.Image.{tablesOf}
@@ -24,7 +24,8 @@ use Rattle.reference.specs.History.{History, run, after, arrayAnswers, a
 use Rattle.reference.specs.Statements.{Follows}
 use Rattle.reference.proofs.Image.{store-entry}
 use Rattle.reference.proofs.Emptied.{emptied-sound, cleared-tables}
-use Rattle.reference.proofs.Refused.{passed-none, refusal-first, first-refusal, given-exactly, not-refused, passed-valid, matches-after}
+use Rattle.machines.proofs.Refusals.{passed-none, refusal-first, first-refusal, given-says}
+use Rattle.reference.proofs.Refused.{given-exactly, not-refused, passed-valid, matches-after}
 use Rattle.reference.proofs.Agreement.{same-refusals, agrees}
 
 -- ---- from the tables of an array on
@@ -97,11 +98,6 @@ equal-tables g t u cs ds e d =
 
 -- ---- which numbers a later call can get
 
--- every row says P of its number where its test holds
-abbrev Each : (ℕ → Type 0) → List RefusalRow → Type 0
-Each P [] = Unit
-Each P ((n given-when test) ∷ rest) = (test ≡ true → P n) × Each P rest
-
 -- in such a history a call is stopped by the plain array's rows and by no other
 pub later-refusals : (g : Geometry) (t : Tables) (cs : History) (c : Call (List ℕ)) (n : ℕ) → step g t clear .answer ≡ cleared
     → step g (after g t (clear ∷ cs)) c .answer ≡ refused n → FirstApplies (arrayRefusals g (shape c)) n
@@ -109,13 +105,6 @@ later-refusals g t cs c n e h =
     let p = history g t cs e .tables in
     let given = first-refusal _ n (given-exactly g (tablesOf g (arrayOf g (clear ∷ cs))) c n .0 (rw p at h)) in
     refusal-first _ n (sym (same-refusals g (clear-valid g t e) _ (array-sound g t cs e) c) ∙ given)
-
--- what each row says when its test holds, the row that is given says
-given-says : (P : ℕ → Type 0) (rows : List RefusalRow) (n : ℕ) → Each P rows → firstRefusal rows ≡ Option.some n → P n
-unfolding firstRefusal
-given-says P [] n each e = absurd (let z : _≡_ {A = ℕ} 0 1 = cc in omega arith)
-given-says P ((m given-when true) ∷ rest) n each e = let same : m ≡ n = cc in rw same at (each .0 refl)
-given-says P ((m given-when false) ∷ rest) n each e = given-says P rest n (each .1) e
 
 -- So 1, 5 and 6 do not occur after an accepted clear, and 2 only for a match word of wrong length.
 pub later-numbers : (g : Geometry) (t : Tables) (cs : History) (c : Call (List ℕ)) (n : ℕ) → step g t clear .answer ≡ cleared

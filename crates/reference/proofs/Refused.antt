@@ -14,43 +14,12 @@ use Rattle.geometry.specs.declared.Geometry.{Geometry}
 use Rattle.geometry.specs.Valid.{valid}
 use Rattle.geometry.specs.Stages.{indicatorWords}
 use Rattle.reference.specs.Calls.{Call, clear, write, erase, read, firstMatch, allMatch, lent, matchesAfter, Answer, refused, cleared, held, at, none, matched}
-use Rattle.reference.specs.Refusals.{RefusalRow, _given-when_, firstRefusal, Passed, FirstApplies}
+use Rattle.machines.specs.Refusals.{firstRefusal, Passed, FirstApplies}
+use Rattle.machines.proofs.Refusals.{passes, refusal-first, first-refusal}
 use Rattle.reference.specs.Tables.{Tables}
 use Rattle.reference.specs.Search.{Found, hit, nothing, falseSet, isFalse, firstFound, answerOf}
 use Rattle.reference.proofs.Limits.{lengths-pass}
 use Rattle.reference.specs.Steps.{badLengths, badMatches, ownRefusals, refusals, accepted, outcome, step}
-
--- where no number is given, every row is passed
-pub passes : (rows : List RefusalRow) → firstRefusal rows ≡ Option.none → Passed rows
-unfolding firstRefusal
-passes [] e = tt
-passes ((n given-when true) ∷ rest) e = absurd (let z : _≡_ {A = ℕ} 0 1 = cc in omega arith)
-passes ((n given-when false) ∷ rest) e = (refl, passes rest e)
-
--- below rows that are passed, the rest decides
-below-passed : (above rest : List RefusalRow) → Passed above → firstRefusal (above ++ rest) ≡ firstRefusal rest
-unfolding firstRefusal
-below-passed [] rest p = refl
-below-passed ((n given-when true) ∷ above) rest p = absurd (true≢false (p .0))
-below-passed ((n given-when false) ∷ above) rest p = below-passed above rest (p .1)
-
-pub passed-none : (rows : List RefusalRow) → Passed rows → firstRefusal rows ≡ Option.none
-unfolding firstRefusal
-passed-none rows p = ap firstRefusal (sym (append-nil rows)) ∙ below-passed rows [] p
-
-pub refusal-first : (rows : List RefusalRow) (n : ℕ) → firstRefusal rows ≡ Option.some n → FirstApplies rows n
-unfolding firstRefusal
-refusal-first [] n e = absurd (let z : _≡_ {A = ℕ} 0 1 = cc in omega arith)
-refusal-first ((m given-when true) ∷ rest) n e =
-    let same : m ≡ n = cc in
-    record { above = []; below = rest; split = ap (λ k. k given-when true ∷ rest) same; passed = tt }
-refusal-first ((m given-when false) ∷ rest) n e =
-    let f = refusal-first rest n e in
-    record { above = m given-when false ∷ f .above; below = f .below; split = ap (λ r. m given-when false ∷ r) (f .split); passed = (refl, f .passed) }
-
-pub first-refusal : (rows : List RefusalRow) (n : ℕ) → FirstApplies rows n → firstRefusal rows ≡ Option.some n
-unfolding firstRefusal
-first-refusal rows n f = rw (f .split) (below-passed (f .above) (n given-when true ∷ f .below) (f .passed))
 
 -- whether an answer is a refusal number
 abbrev pub isNumber : Answer → Bool

@@ -18,14 +18,16 @@ use Rattle.geometry.proofs.Places.{set-lt}
 use Rattle.geometry.proofs.Stages.{stage-lt, row-lt}
 use Rattle.reference.specs.Entry.{Entry, empty, pattern, wordOf}
 use Rattle.reference.specs.Calls.{Call, write, erase, read, held}
-use Rattle.reference.specs.Refusals.{Passed, badAddress}
+use Rattle.machines.specs.Refusals.{Passed}
+use Rattle.reference.specs.Refusals.{badAddress}
 use Rattle.reference.specs.Tables.{Tables, storeWord, storeEntry, cell, belongs}
 use Rattle.reference.specs.Image.{entryRows, covers}
 use Rattle.reference.specs.Statements.{EveryBit}
 use Rattle.reference.specs.Update.{othersCover, released, replaced}
 use Rattle.reference.specs.Steps.{badEntry, ownRefusals, refusals, accepted, outcome, step}
 use Rattle.reference.proofs.Limits.{address-passes, passed-entry}
-use Rattle.reference.proofs.Refused.{passed-none, not-refused, passed-valid, passed-lengths}
+use Rattle.machines.proofs.Refusals.{passed-none}
+use Rattle.reference.proofs.Refused.{not-refused, passed-valid, passed-lengths}
 use Rattle.reference.proofs.Cells.{length-change, set-cell, clear-cell}
 
 -- what an entry covers is a row of the indicators

@@ -23,7 +23,7 @@ use Rattle.geometry.specs.Stages.{stages, rowOf, rowsOf, indicatorWords}
 use Rattle.geometry.proofs.Facts.{Facts, facts}
 use Rattle.geometry.proofs.Places.{sets-most, matches-most}
 use Rattle.reference.specs.Calls.{firstMatch, allMatch, none, refused, matched}
-use Rattle.reference.specs.Refusals.{_given-when_, firstRefusal}
+use Rattle.machines.specs.Refusals.{_given-when_, firstRefusal}
 use Rattle.reference.specs.Tables.{Tables, storeWord, cell}
 use Rattle.reference.specs.Search.{joined, indicated, seekWord, seekEntry, lowestSet, Found, hit, nothing, falseSet, isFalse, inSet, firstFound, anyIsFalse, answerOf, taken, takenWords}
 use Rattle.reference.specs.Steps.{badMatches, ownRefusals, refusals, accepted, outcome, step}

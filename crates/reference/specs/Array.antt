@@ -14,7 +14,8 @@ use Rattle.geometry.specs.Valid.{segmented}
 use Rattle.geometry.specs.Sizes.{rowWords, matchWords, offsetOf}
 use Rattle.reference.specs.Entry.{Entry, empty, pattern, Fits, holds}
 use Rattle.reference.specs.Calls.{Call, clear, write, erase, read, firstMatch, allMatch, Answer, refused, cleared, held, at, none, matched}
-use Rattle.reference.specs.Refusals.{RefusalRow, _given-when_, firstRefusal, badAddress, badPattern}
+use Rattle.machines.specs.Refusals.{RefusalRow, _given-when_, firstRefusal}
+use Rattle.reference.specs.Refusals.{badAddress, badPattern}
 
 -- "Its state is D entries, each empty or a pattern." Sound arrays are of that kind; every history leaves one.
 abbrev pub Array : Type 0

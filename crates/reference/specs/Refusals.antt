@@ -1,34 +1,9 @@
--- Document 01's table "Where a call stops": its rows are tested from the top, and the first that applies is given.
+-- The tests of document 01's table "Where a call stops" that the plain array and the steps share.
 use Prim.Native.Nat.{ℕ}
-use mathlib.Core.Bool.{Bool, true, false}
-use mathlib.Core.List.{List, [], _∷_, _++_}
-use mathlib.Core.Path.{_≡_}
-use mathlib.Core.Option.{Option, none, some}
+use mathlib.Core.Bool.{Bool}
 use lib.Dec.{leb}
 use Rattle.geometry.specs.declared.Geometry.{Geometry}
 use Rattle.geometry.specs.Sizes.{patterns}
-
--- A row of the table at one call: the number, given when the test holds.
-pub data RefusalRow : Type 0 where
-  _given-when_ : (number : ℕ) (test : Bool) → RefusalRow
-
-infix 70 _given-when_
-unfoldable pub firstRefusal : List RefusalRow → Option ℕ
-firstRefusal [] = none
-firstRefusal ((n given-when true) ∷ rest) = some n
-firstRefusal ((n given-when false) ∷ rest) = firstRefusal rest
-
--- No row applies.
-abbrev pub Passed : List RefusalRow → Type 0
-Passed [] = Unit
-Passed ((n given-when test) ∷ rest) = (test ≡ false) × Passed rest
-
--- The row of number n applies and no row above it does.
-pub record FirstApplies (rows : List RefusalRow) (n : ℕ) : Type 0 where
-  pub above : List RefusalRow
-  pub below : List RefusalRow
-  pub split : rows ≡ above ++ (n given-when true ∷ below)
-  pub passed : Passed above
 
 -- "address is D or more"
 unfoldable pub badAddress : Geometry → ℕ → Bool

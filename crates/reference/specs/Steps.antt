@@ -14,7 +14,8 @@ use Rattle.geometry.specs.Stages.{indicatorWords}
 use Rattle.geometry.specs.Checks.{tablesFit}
 use Rattle.reference.specs.Entry.{empty, pattern, emptyWord}
 use Rattle.reference.specs.Calls.{Call, clear, write, erase, read, firstMatch, allMatch, Answer, refused, cleared, held, matched, lent}
-use Rattle.reference.specs.Refusals.{RefusalRow, _given-when_, firstRefusal, badAddress, badPattern}
+use Rattle.machines.specs.Refusals.{RefusalRow, _given-when_, firstRefusal}
+use Rattle.reference.specs.Refusals.{badAddress, badPattern}
 use Rattle.reference.specs.Tables.{Tables, storeWord, storeEntry}
 use Rattle.reference.specs.Update.{replaced}
 use Rattle.reference.specs.Search.{isFalse, firstFound, anyIsFalse, answerOf, takenWords}

@@ -8,7 +8,7 @@ use Rattle.geometry.specs.Sizes.{matchWords}
 use Rattle.geometry.proofs.Facts.{facts}
 use Rattle.geometry.proofs.Places.{matches-least}
 use Rattle.reference.specs.Calls.{allMatch, lent}
-use Rattle.reference.specs.Refusals.{_given-when_}
+use Rattle.machines.specs.Refusals.{_given-when_}
 use Rattle.reference.specs.Search.{anyIsFalse}
 use Rattle.reference.specs.Steps.{ownRefusals}
 use Rattle.calls.specs.Answers.{tables}

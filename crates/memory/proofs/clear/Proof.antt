@@ -3,7 +3,7 @@ use mathlib.Core.Path.{refl, sym, ap₂, _∙_}
 use mathlib.Core.List.{[]}
 use borrow.Author.Needs.{needs}
 use Rattle.reference.specs.Calls.{clear, lent}
-use Rattle.reference.specs.Refusals.{firstRefusal}
+use Rattle.machines.specs.Refusals.{firstRefusal}
 use Rattle.reference.specs.Steps.{badMatches, ownRefusals, outcome}
 use Rattle.calls.specs.Answers.{tables, left}
 use Rattle.calls.specs.declared.Answer.the-variants.{Cleared}

@@ -5,7 +5,7 @@ use mathlib.Core.List.{[], _∷_}
 use native.Mathlib.Omega.{arith}
 use borrow.Author.Needs.{needs}
 use Rattle.reference.specs.Calls.{read, lent}
-use Rattle.reference.specs.Refusals.{_given-when_}
+use Rattle.machines.specs.Refusals.{_given-when_}
 use Rattle.reference.specs.Steps.{badMatches, badEntry, ownRefusals}
 use Rattle.calls.specs.Answers.{tables}
 use Rattle.calls.specs.Passed.{Sized}

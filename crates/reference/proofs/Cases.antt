@@ -12,6 +12,7 @@ use Rattle.geometry.specs.Stages.{stages, stageWidth, stage, rowOf, rowsOf, row
 use Rattle.reference.specs.Entry.{wordOf, entryOf}
 use Rattle.reference.specs.Calls.{lent}
 use Rattle.machines.specs.Refusals.{firstRefusal}
+use Rattle.machines.specs.Machine as machine
 use Rattle.reference.specs.Refusals.{badAddress, badPattern}
 use Rattle.reference.specs.Image.{entryRows, covers}
 use Rattle.reference.specs.Update.{change, othersCover, released, replaced}
@@ -21,7 +22,7 @@ use Rattle.reference.specs.History.{run}
 use Rattle.reference.specs.Cases.{Case, cases, Trial, trials}
 
 pub cases-hold : map (λ (r : Case). map (λ (o : Outcome). o .answer) (run (r .geometry) (r .tables) (r .calls))) cases ≡ map (λ (r : Case). r .answers) cases
-unfolding trailingZeros any count member keep tabulate bit setBit clearBit changeBit rowMask word totalOnes seek valid patterns sets rowWords matchWords setLength stages stageWidth stage rowOf rowsOf rows indicatorWords wordOf entryOf firstRefusal badAddress badPattern entryRows covers change othersCover released replaced joined indicated seekWord seekEntry lowestSet isFalse inSet firstFound anyIsFalse answerOf taken takenWords badLengths badMatches badEntry ownRefusals refusals clearTables accepted outcome step run cases
+unfolding trailingZeros any count member keep tabulate bit setBit clearBit changeBit rowMask word totalOnes seek valid patterns sets rowWords matchWords setLength stages stageWidth stage rowOf rowsOf rows indicatorWords wordOf entryOf firstRefusal badAddress badPattern entryRows covers change othersCover released replaced joined indicated seekWord seekEntry lowestSet isFalse inSet firstFound anyIsFalse answerOf taken takenWords badLengths badMatches badEntry ownRefusals refusals clearTables accepted outcome step machine.run cases
 cases-hold = refl
 
 pub trials-hold : map (λ (r : Trial). step (r .geometry) (r .tables) (r .call)) trials ≡ map (λ (r : Trial). r .leaves) trials

@@ -16,12 +16,14 @@ use Rattle.geometry.proofs.Facts.{facts}
 use Rattle.reference.specs.Entry.{empty}
 use Rattle.reference.specs.Calls.{Call, clear, write, erase, read, firstMatch, allMatch, shape, lent, matchesAfter, Answer, refused, cleared}
 use Rattle.machines.specs.Refusals.{firstRefusal, Passed, FirstApplies, Each}
-use Rattle.reference.specs.Array.{Array, emptied, arrayRefusals, arrayAccepted, arrayOutcome, arrayStep, Sound}
+use Rattle.reference.specs.Array.{Array, emptied, entryAt, Sound, arrayRefusals, ArrayOutcome, arrayAccepted, arrayOutcome, arrayStep}
 use Rattle.reference.specs.Tables.{Tables, storeEntry}
 use Rattle.reference.specs.Image.{tablesOf}
 use Rattle.reference.specs.Steps.{badMatches, refusals, accepted, outcome, step, Outcome}
-use Rattle.reference.specs.History.{History, run, after, arrayAnswers, arrayAfter, arrayOf}
-use Rattle.reference.specs.Statements.{Follows}
+use Rattle.machines.specs.Machine as machine
+use Rattle.machines.proofs.Runs.{Keeps, Together, together}
+use Rattle.reference.specs.History.{History, onTables, onArray, run, after, arrayAfter, arrayOf}
+use Rattle.reference.specs.Statements.{Begun, Follows}
 use Rattle.reference.proofs.Image.{store-entry}
 use Rattle.reference.proofs.Emptied.{emptied-sound, cleared-tables}
 use Rattle.machines.proofs.Refusals.{passed-none, refusal-first, first-refusal, given-says}
@@ -32,69 +34,71 @@ use Rattle.reference.proofs.Agreement.{same-refusals, agrees}
 
 matches-follow : (g : Geometry) (t : Tables) (cs : History)
     → map (λ (o : Outcome). o .matches) (run g t cs) ≡ zipWith matchesAfter (map (λ (o : Outcome). o .answer) (run g t cs)) (map lent cs)
-unfolding run zipWith
+unfolding machine.run zipWith
 matches-follow g t [] = refl
 matches-follow g t (c ∷ cs) = ap₂ (λ (x : List ℕ) (xs : List (List ℕ)). x ∷ xs) (matches-after g t c) (matches-follow g (step g t c .tables) cs)
 
-module _ (g : Geometry) (ok : valid g ≡ true) where
-  pub follows : (es : Array) → Sound g es → (cs : History) → Follows g es (tablesOf g es) cs
-  unfolding run after arrayAnswers arrayAfter
-  follows es sound [] = record { answers = refl; matches = matches-follow g (tablesOf g es) []; tables = refl }
-  follows es sound (c ∷ cs) =
-      let a = agrees g ok es sound c in
-      let rest = follows (arrayStep g es (shape c) .array) (a .sound) cs in
-      record {
-        answers = ap₂ (λ (x : Answer) (xs : List Answer). x ∷ xs) (a .answer) (rw (a .tables) (rest .answers));
-        matches = matches-follow g (tablesOf g es) (c ∷ cs);
-        tables = rw (a .tables) (rest .tables);
-      }
+module _ (g : Geometry) where
+  -- one call, on the tables and on the array
+  abbrev CallKeeps : Tables → Array → Call (List ℕ) → Type 0
+  CallKeeps = Keeps (onTables g) (onArray g) shape (λ (o : Outcome). o .answer) (λ (o : ArrayOutcome). o .answer) (Begun g)
 
-  sound-after : (es : Array) → Sound g es → (cs : List (Call (List ℕ))) → Sound g (arrayAfter g es (map shape cs))
-  unfolding arrayAfter
-  sound-after es sound [] = sound
-  sound-after es sound (c ∷ cs) = sound-after (arrayStep g es (shape c) .array) (agrees g ok es sound c .sound) cs
+  call-keeps : (t : Tables) (es : Array) → Begun g t es → (c : Call (List ℕ)) → CallKeeps t es c
+  call-keeps t es b c =
+      let a = agrees g (b .is-valid) es (b .sound) c in
+      rw (b .tables) (record { answer = a .answer; related = record { is-valid = b .is-valid; sound = a .sound; tables = a .tables } })
+
+  history-keeps : (t : Tables) (es : Array) → Begun g t es → (cs : History)
+      → Together (onTables g) (onArray g) shape (λ (o : Outcome). o .answer) (λ (o : ArrayOutcome). o .answer) (Begun g) t es cs
+  history-keeps = together (onTables g) (onArray g) shape _ _ (Begun g) call-keeps
+
+  pub follows : (t : Tables) (es : Array) → Begun g t es → (cs : History) → Follows g es t cs
+  follows t es b cs = let h = history-keeps t es b cs in record { answers = h .answers; matches = matches-follow g t cs; tables = h .ends .tables }
 
 -- ---- from an accepted clear on, whatever the tables held
-
-clear-passes : (g : Geometry) (t : Tables) → step g t clear .answer ≡ cleared → Passed (refusals g t clear)
-clear-passes g t e = not-refused g t clear cleared refl e
-
-pub clear-valid : (g : Geometry) (t : Tables) → step g t clear .answer ≡ cleared → valid g ≡ true
-clear-valid g t e = passed-valid g t clear (clear-passes g t e)
 
 pub passed-empties : (g : Geometry) (t : Tables) → Passed (refusals g t clear) → step g t clear .tables ≡ tablesOf g (emptied g)
 unfolding step outcome accepted
 passed-empties g t p = rw (passed-none (refusals g t clear) p) (cleared-tables g)
 
-clear-empties : (g : Geometry) (t : Tables) → step g t clear .answer ≡ cleared → step g t clear .tables ≡ tablesOf g (emptied g)
-clear-empties g t e = passed-empties g t (clear-passes g t e)
+clear-begins : (g : Geometry) (t : Tables) → step g t clear .answer ≡ cleared → Begun g (step g t clear .tables) (emptied g)
+clear-begins g t e =
+    let p = not-refused g t clear cleared refl e in
+    record { is-valid = passed-valid g t clear p; sound = emptied-sound g; tables = passed-empties g t p }
 
 pub history : (g : Geometry) (t : Tables) (cs : History) → step g t clear .answer ≡ cleared → Follows g (emptied g) t (clear ∷ cs)
-unfolding run after arrayAnswers arrayAfter arrayStep arrayOutcome arrayRefusals firstRefusal arrayAccepted shape
+unfolding machine.run machine.after arrayStep arrayOutcome arrayRefusals firstRefusal arrayAccepted shape
 history g t cs e =
-    let rest = follows g (clear-valid g t e) (emptied g) (emptied-sound g) cs in
+    let rest = follows g (step g t clear .tables) (emptied g) (clear-begins g t e) cs in
     record {
-      answers = ap₂ (λ (x : Answer) (xs : List Answer). x ∷ xs) e (rw (clear-empties g t e) (rest .answers));
+      answers = ap₂ (λ (x : Answer) (xs : List Answer). x ∷ xs) e (rest .answers);
       matches = matches-follow g t (clear ∷ cs);
-      tables = rw (clear-empties g t e) (rest .tables);
+      tables = rest .tables;
     }
+
+-- what such a history leaves can be gone on with
+history-begins : (g : Geometry) (t : Tables) (cs : History) → step g t clear .answer ≡ cleared → Begun g (after g t (clear ∷ cs)) (arrayOf g (clear ∷ cs))
+unfolding machine.after arrayStep arrayOutcome arrayRefusals firstRefusal arrayAccepted shape
+history-begins g t cs e = history-keeps g (step g t clear .tables) (emptied g) (clear-begins g t e) cs .ends
 
 -- every history leaves D entries, each empty or a pattern
 pub array-sound : (g : Geometry) (t : Tables) (cs : History) → step g t clear .answer ≡ cleared → Sound g (arrayOf g (clear ∷ cs))
-array-sound g t cs e = sound-after g (clear-valid g t e) (emptied g) (emptied-sound g) (clear ∷ cs)
+array-sound g t cs e = history-begins g t cs e .sound
 
 -- arrays with equal tables are equal: the store tells every entry
-array-told : (g : Geometry) → valid g ≡ true → (es fs : Array) → Sound g es → Sound g fs → tablesOf g es ≡ tablesOf g fs → es ≡ fs
-array-told g ok es fs p q same =
-    ext-getD empty es fs (p .long ∙ sym (q .long))
-    (λ a l. sym (store-entry g (facts g ok) es p a) ∙ ap (λ (t : Tables). storeEntry g t a) same ∙ store-entry g (facts g ok) fs q a)
+array-told : (g : Geometry) (t : Tables) (es fs : Array) → Begun g t es → Begun g t fs → es ≡ fs
+array-told g t es fs p q =
+    ext-getD empty es fs (p .sound .long ∙ sym (q .sound .long)) (λ a l. sym (told es p a) ∙ told fs q a)
+  where
+    told : (es : Array) → Begun g t es → (a : ℕ) → storeEntry g t a ≡ entryAt es a
+    told es b a = rw (b .tables) (store-entry g (facts g (b .is-valid)) es (b .sound) a)
 
 pub equal-tables : (g : Geometry) (t u : Tables) (cs ds : History) → step g t clear .answer ≡ cleared → step g u clear .answer ≡ cleared
     → (after g t (clear ∷ cs) ≡ after g u (clear ∷ ds)) ↔ (arrayOf g (clear ∷ cs) ≡ arrayOf g (clear ∷ ds))
 equal-tables g t u cs ds e d =
-    let p = history g t cs e .tables in
-    let q = history g u ds d .tables in
-    (λ same. array-told g (clear-valid g t e) _ _ (array-sound g t cs e) (array-sound g u ds d) (sym p ∙ same ∙ q), λ same. p ∙ ap (tablesOf g) same ∙ sym q)
+    let p = history-begins g t cs e in
+    let q = history-begins g u ds d in
+    (λ same. array-told g (after g t (clear ∷ cs)) _ _ p (rw same q), λ same. p .tables ∙ ap (tablesOf g) same ∙ sym (q .tables))
 
 -- ---- which numbers a later call can get
 
@@ -102,9 +106,9 @@ equal-tables g t u cs ds e d =
 pub later-refusals : (g : Geometry) (t : Tables) (cs : History) (c : Call (List ℕ)) (n : ℕ) → step g t clear .answer ≡ cleared
     → step g (after g t (clear ∷ cs)) c .answer ≡ refused n → FirstApplies (arrayRefusals g (shape c)) n
 later-refusals g t cs c n e h =
-    let p = history g t cs e .tables in
-    let given = first-refusal _ n (given-exactly g (tablesOf g (arrayOf g (clear ∷ cs))) c n .0 (rw p at h)) in
-    refusal-first _ n (sym (same-refusals g (clear-valid g t e) _ (array-sound g t cs e) c) ∙ given)
+    let b = history-begins g t cs e in
+    let given = first-refusal _ n (given-exactly g (tablesOf g (arrayOf g (clear ∷ cs))) c n .0 (rw (b .tables) at h)) in
+    refusal-first _ n (sym (same-refusals g (b .is-valid) _ (b .sound) c) ∙ given)
 
 -- So 1, 5 and 6 do not occur after an accepted clear, and 2 only for a match word of wrong length.
 pub later-numbers : (g : Geometry) (t : Tables) (cs : History) (c : Call (List ℕ)) (n : ℕ) → step g t clear .answer ≡ cleared

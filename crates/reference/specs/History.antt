@@ -1,32 +1,36 @@
 -- A history run on tables and on the plain array.
 use Prim.Native.Nat.{ℕ}
-use mathlib.Core.List.{List, [], _∷_, map}
+use mathlib.Core.List.{List, map}
+use Rattle.machines.specs.Machine as machine
+use Rattle.machines.specs.Machine.{Machine}
 use Rattle.geometry.specs.declared.Geometry.{Geometry}
 use Rattle.reference.specs.Calls.{Call, Answer, shape}
-use Rattle.reference.specs.Array.{Array, emptied, arrayStep}
+use Rattle.reference.specs.Array.{Array, emptied, ArrayOutcome, arrayStep}
 use Rattle.reference.specs.Tables.{Tables}
 use Rattle.reference.specs.Steps.{Outcome, step}
 
 abbrev pub History : Type 0
 History = List (Call (List ℕ))
 
--- What each call leaves, in order.
-unfoldable pub run : Geometry → Tables → History → List Outcome
-run g t [] = []
-run g t (c ∷ cs) = step g t c ∷ run g (step g t c .tables) cs
+-- The calls on tables as a machine, and those on the plain array.
+abbrev pub onTables : Geometry → Machine Tables (Call (List ℕ)) Outcome
+onTables g = record { step = step g; state = λ o. o .tables }
 
--- The tables at the end.
-unfoldable pub after : Geometry → Tables → History → Tables
-after g t [] = t
-after g t (c ∷ cs) = after g (step g t c .tables) cs
+abbrev pub onArray : Geometry → Machine Array (Call ℕ) ArrayOutcome
+onArray g = record { step = arrayStep g; state = λ o. o .array }
 
-unfoldable pub arrayAnswers : Geometry → Array → List (Call ℕ) → List Answer
-arrayAnswers g es [] = []
-arrayAnswers g es (c ∷ cs) = arrayStep g es c .answer ∷ arrayAnswers g (arrayStep g es c .array) cs
+-- What each call leaves, in order; and the tables at the end.
+abbrev pub run : Geometry → Tables → History → List Outcome
+run g = machine.run (onTables g)
 
-unfoldable pub arrayAfter : Geometry → Array → List (Call ℕ) → Array
-arrayAfter g es [] = es
-arrayAfter g es (c ∷ cs) = arrayAfter g (arrayStep g es c .array) cs
+abbrev pub after : Geometry → Tables → History → Tables
+after g = machine.after (onTables g)
+
+abbrev pub arrayAnswers : Geometry → Array → List (Call ℕ) → List Answer
+arrayAnswers g es cs = map (λ (o : ArrayOutcome). o .answer) (machine.run (onArray g) es cs)
+
+abbrev pub arrayAfter : Geometry → Array → List (Call ℕ) → Array
+arrayAfter g = machine.after (onArray g)
 
 -- The array of a history that begins with an accepted clear: it begins empty.
 abbrev pub arrayOf : Geometry → History → Array

@@ -8,12 +8,12 @@ use lib.ListN.{length}
 use Rattle.words.specs.Rules.{any, count, tabulate, First, Nowhere}
 use Rattle.words.specs.Bits.{word}
 use Rattle.geometry.specs.declared.Geometry.{Geometry}
-use Rattle.geometry.specs.Valid.{segmented}
+use Rattle.geometry.specs.Valid.{segmented, valid}
 use Rattle.geometry.specs.Sizes.{sets, rowWords, matchWords, setOf, offsetOf, addressOf, setLength}
 use Rattle.geometry.specs.Stages.{stages, stageWidth, stage, rows, indicatorWords}
 use Rattle.reference.specs.Entry.{Entry, empty, pattern, wordOf, holds}
 use Rattle.reference.specs.Calls.{Answer, refused, at, none, matched, shape, lent, matchesAfter}
-use Rattle.reference.specs.Array.{Array}
+use Rattle.reference.specs.Array.{Array, Sound}
 use Rattle.reference.specs.Tables.{Tables, storeWord, storeEntry, cell, belongs}
 use Rattle.reference.specs.Image.{covers, covered, tablesOf}
 use Rattle.reference.specs.Update.{othersCover}
@@ -22,6 +22,12 @@ use Rattle.reference.specs.Steps.{Outcome}
 use Rattle.reference.specs.History.{History, run, after, arrayAnswers, arrayAfter}
 
 -- ---- demand 3
+
+-- The tables are those of a sound array of a valid geometry: what a history begins with, and each call keeps.
+pub record Begun (g : Geometry) (t : Tables) (es : Array) : Type 0 where
+  pub is-valid : valid g ≡ true
+  pub sound : Sound g es
+  pub tables : t ≡ tablesOf g es
 
 -- A history on tables is that of the plain array that begins as es and is fed the shape of each call: every answer; the
 -- match word that each call leaves, the lent one after a refusal; and at the end the store and every indicator word,

@@ -1,9 +1,10 @@
--- The one induction over histories: a relation between the states of two machines that each call keeps.
-use mathlib.Core.Path.{_≡_, refl, sym, ap, ap₂, _∙_}
+-- The induction over histories: what each call keeps, a history keeps; and that over chains: events that are each a call of a
+-- machine are its run.
+use mathlib.Core.Path.{_≡_, refl, ap, ap₂, _∙_}
 use mathlib.Core.List.{List, [], _∷_, map}
-use Rattle.machines.specs.Machine.{Machine, next, run, after}
-use Rattle.machines.specs.Chain as Chain
-use Rattle.machines.specs.Chain.{Chain, last}
+use Rattle.machines.specs.Machine as machine
+use Rattle.machines.specs.Machine.{Machine, run, after}
+use Rattle.machines.specs.Chain.{Chain, ended, next, last}
 
 -- `told` is what the second machine is told of a call of the first, and `seen`, `seen′` are what is compared of what a call
 -- leaves.
@@ -12,7 +13,7 @@ module _ {S C L T D K A : Type 0} (m : Machine S C L) (n : Machine T D K) (told 
   -- One call in related states: equal answers, and states that are related again.
   pub record Keeps (s : S) (t : T) (c : C) : Type 0 where
     pub answer : seen (m .step s c) ≡ seen′ (n .step t (told c))
-    pub related : Related (next m s c) (next n t (told c))
+    pub related : Related (machine.next m s c) (machine.next n t (told c))
 
   -- A whole history: the same.
   pub record Together (s : S) (t : T) (cs : List C) : Type 0 where
@@ -24,5 +25,35 @@ module _ {S C L T D K A : Type 0} (m : Machine S C L) (n : Machine T D K) (told 
   together keeps s t r [] = record { answers = refl; ends = r }
   together keeps s t r (c ∷ cs) =
       let k = keeps s t r c in
-      let rest = together keeps (next m s c) (next n t (told c)) (k .related) cs in
+      let rest = together keeps (machine.next m s c) (machine.next n t (told c)) (k .related) cs in
       record { answers = ap₂ (λ (x : A) (xs : List A). x ∷ xs) (k .answer) (rest .answers); ends = rest .ends }
+
+-- `call` is the call of an event, `answer` what came back and `state` what it left.
+module _ {S C L X A : Type 0} (m : Machine S C L) (seen : L → A) (call : X → C) (answer : X → A) (state : X → S) where
+  -- An event in a state is the machine's call.
+  pub record Is (s : S) (x : X) : Type 0 where
+    pub same-answer : answer x ≡ seen (m .step s (call x))
+    pub same-state : state x ≡ machine.next m s (call x)
+
+  -- A whole chain: the same.
+  pub record Are (s : S) (xs : List X) : Type 0 where
+    pub answers : map answer xs ≡ map seen (run m s (map call xs))
+    pub ends : last state s xs ≡ after m s (map call xs)
+
+  pub chain-is : {Link : S → X → Type 0} → ((s : S) (x : X) → Link s x → Is s x) → (s : S) (xs : List X) → Chain state Link s xs → Are s xs
+  unfolding run after last
+  chain-is is s [] ended = record { answers = refl; ends = refl }
+  chain-is is s (x ∷ xs) (next link rest) =
+      let k = is s x link in
+      let r = chain-is is (state x) xs rest in
+      record {
+        answers = ap₂ (λ (a : A) (rest : List A). a ∷ rest) (k .same-answer) (rw (← k .same-state) (r .answers));
+        ends = r .ends ∙ ap (λ (u : S). after m u (map call xs)) (k .same-state);
+      }
+
+-- what each link tells of its event, a chain tells of all
+pub chain-each : {S X A : Type 0} {state : X → S} {Link : S → X → Type 0} (f h : X → A) → ((s : S) (x : X) → Link s x → f x ≡ h x)
+    → (s : S) (xs : List X) → Chain state Link s xs → map f xs ≡ map h xs
+chain-each f h tells s [] ended = refl
+chain-each {A = A} {state = state} f h tells s (x ∷ xs) (next link rest) =
+    ap₂ (λ (a : A) (rest : List A). a ∷ rest) (tells s x link) (chain-each f h tells (state x) xs rest)

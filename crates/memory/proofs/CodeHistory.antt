@@ -1,62 +1,77 @@
--- Demand 3 of the code: a chain of runs is the history of its calls, and that is the plain array's.
+-- Demand 3 of the code: a chain of runs is the history of its calls, and that is the plain array's. Shown for every kind of link
+-- from which a run is known to be its step (`Steps`), and then for what the calls ensure.
 use Prim.Native.Nat.{ℕ}
-use mathlib.Core.Path.{_≡_, refl, sym, ap, ap₂, _∙_}
+use mathlib.Core.Path.{_≡_, refl, sym, ap, _∙_}
 use mathlib.Core.Logic.{_↔_}
-use mathlib.Core.List.{List, [], _∷_, map, zipWith}
+use mathlib.Core.List.{List, _∷_, map}
+use Rattle.machines.specs.Chain.{next}
+use Rattle.machines.proofs.Runs.{Is, Are, chain-is, chain-each}
 use Rattle.geometry.specs.declared.Geometry.{Geometry}
-use Rattle.reference.specs.Calls as calls
-use Rattle.reference.specs.Calls.{clear, cleared, matchesAfter}
+use Rattle.reference.specs.Calls.{Call, Answer, clear, cleared, matchesAfter}
 use Rattle.reference.specs.Tables.{Tables}
 use Rattle.reference.specs.Steps.{Outcome, step}
-use Rattle.reference.specs.History.{run, after}
+use Rattle.reference.specs.History.{onTables}
+use Rattle.reference.proofs.Refused.{matches-after}
 use Rattle.reference.proofs.History.{history, equal-tables}
-use Rattle.calls.specs.declared.Call.the-variants.{Clear}
-use Rattle.calls.specs.declared.Answer.the-variants.{Cleared}
-use Rattle.memory.specs.Runs.{Run, callOf, answerOf, Chain, ended, next, lastTables, arrayAfterRuns, CodeFollows}
+use Rattle.memory.specs.Runs.{Run, Made, by-call, by-perform, Chain, lastTables, arrayAfterRuns, CodeFollows}
 
-answers-run : (g : Geometry) (t : Tables) (xs : List Run) → Chain g t xs
-    → map answerOf xs ≡ map (λ (o : Outcome). o .answer) (run g t (map callOf xs))
-unfolding run
-answers-run g t [] ended = refl
-answers-run g t (x ∷ xs) (next p rest) =
-    ap₂ (λ (a : calls.Answer) (rest : List calls.Answer). a ∷ rest) (p .answer) (rw (← p .tables-after) (answers-run g (x .tables) xs rest))
+-- A run on the tables t is the step of its call, with the match word in its answer or else as lent.
+pub record Steps (g : Geometry) (t : Tables) (x : Run) : Type 0 where
+  pub answer : x .answer ≡ step g t (x .call) .answer
+  pub tables : x .tables ≡ step g t (x .call) .tables
+  pub matches : x .matches ≡ matchesAfter (x .answer) (x .lent)
 
-tables-run : (g : Geometry) (t : Tables) (xs : List Run) → Chain g t xs → lastTables t xs ≡ after g t (map callOf xs)
-unfolding after
-tables-run g t [] ended = refl
-tables-run g t (x ∷ xs) (next p rest) = tables-run g (x .tables) xs rest ∙ ap (λ (u : Tables). after g u (map callOf xs)) (p .tables-after)
+-- what a call's outcome tells
+pub outcome-steps : {g : Geometry} {t : Tables} {c : Call (List ℕ)} {o : Outcome} → o ≡ step g t c → {l : List ℕ}
+    → step g t c .matches ≡ matchesAfter (step g t c .answer) l
+    → Steps g t (record { call = c; lent = l; answer = o .answer; tables = o .tables; matches = o .matches })
+outcome-steps e kept = record {
+  answer = ap (λ (o : Outcome). o .answer) e;
+  tables = ap (λ (o : Outcome). o .tables) e;
+  matches = rw e kept;
+}
 
-matches-run : (g : Geometry) (t : Tables) (xs : List Run) → Chain g t xs
-    → map (λ (x : Run). x .matches) xs ≡ zipWith matchesAfter (map answerOf xs) (map (λ (x : Run). x .lent) xs)
-unfolding zipWith
-matches-run g t [] ended = refl
-matches-run g t (x ∷ xs) (next p rest) =
-    ap₂ (λ (m : List ℕ) (ms : List (List ℕ)). m ∷ ms) (p .matches ∙ ap (λ (a : calls.Answer). matchesAfter a (x .lent)) (sym (p .answer))) (matches-run g (x .tables) xs rest)
+made-steps : (g : Geometry) (t : Tables) (x : Run) → Made g t x → Steps g t x
+made-steps g t x (by-call c r s i m e) = outcome-steps e (matches-after g t c)
+made-steps g t x (by-perform call r after m m′ p) = record {
+  answer = p .answer;
+  tables = p .tables-after;
+  matches = p .matches ∙ ap (λ (a : Answer). matchesAfter a m) (sym (p .answer));
+}
 
 -- The first run is a clear that was accepted; the tables before it are any.
-module _ (g : Geometry) (t : Tables) (x : Run) (xs : List Run) (chain : Chain g t (x ∷ xs)) (is : x .call ≡ Clear) (ok : x .answer ≡ Cleared) where
-  first-clear : callOf x ≡ clear
-  first-clear = rw is
+module _ {Link : Tables → Run → Type 0} (g : Geometry) (steps : (t : Tables) (x : Run) → Link t x → Steps g t x) where
+  ran : (t : Tables) (xs : List Run) → Chain Link t xs
+      → Are (onTables g) (λ (o : Outcome). o .answer) (λ (x : Run). x .call) (λ (x : Run). x .answer) (λ (x : Run). x .tables) t xs
+  ran = chain-is (onTables g) _ _ _ _ (λ t x link. let s = steps t x link in record { same-answer = s .answer; same-state = s .tables })
 
-  first-accepted : step g t clear .answer ≡ cleared
-  first-accepted = go chain
-    where
-      go : Chain g t (x ∷ xs) → step g t clear .answer ≡ cleared
-      go (next p rest) = sym (rw is at (p .answer)) ∙ rw ok
+  first-accepted : (t : Tables) (x : Run) (xs : List Run) → Chain Link t (x ∷ xs) → x .call ≡ clear → x .answer ≡ cleared → step g t clear .answer ≡ cleared
+  first-accepted t x xs (next link rest) is ok = sym (rw is at (steps t x link .answer)) ∙ ok
 
-  pub code-history : CodeFollows g t (x ∷ xs)
-  code-history =
-      let h = history g t (map callOf xs) first-accepted in
+  pub chain-follows : (t : Tables) (x : Run) (xs : List Run) → Chain Link t (x ∷ xs) → x .call ≡ clear → x .answer ≡ cleared → CodeFollows g t (x ∷ xs)
+  chain-follows t x xs chain is ok =
+      let h = history g t (map (λ (x : Run). x .call) xs) (first-accepted t x xs chain is ok) in
+      let r = ran t (x ∷ xs) chain in
       record {
-        answers = answers-run g t (x ∷ xs) chain ∙ rw first-clear (h .answers);
-        matches = matches-run g t (x ∷ xs) chain;
-        tables = tables-run g t (x ∷ xs) chain ∙ rw first-clear (h .tables);
+        answers = r .answers ∙ rw is (h .answers);
+        matches = chain-each _ _ (λ t x link. steps t x link .matches) t (x ∷ xs) chain;
+        tables = r .ends ∙ rw is (h .tables);
       }
 
--- Two chains of one geometry leave equal tables exactly when they leave equal arrays.
-pub code-equal-tables : (g : Geometry) (t u : Tables) (x y : Run) (xs ys : List Run) → Chain g t (x ∷ xs) → Chain g u (y ∷ ys)
-    → x .call ≡ Clear → x .answer ≡ Cleared → y .call ≡ Clear → y .answer ≡ Cleared
-    → (lastTables t (x ∷ xs) ≡ lastTables u (y ∷ ys)) ↔ (arrayAfterRuns g (x ∷ xs) ≡ arrayAfterRuns g (y ∷ ys))
-code-equal-tables g t u x y xs ys a b isx okx isy oky =
-    let e = equal-tables g t u (map callOf xs) (map callOf ys) (first-accepted g t x xs a isx okx) (first-accepted g u y ys b isy oky) in
-    rw (tables-run g t (x ∷ xs) a, tables-run g u (y ∷ ys) b, first-clear g t x xs a isx okx, first-clear g u y ys b isy oky) e
+  -- Two chains of one geometry leave equal tables exactly when they leave equal arrays.
+  pub chains-equal-tables : (t u : Tables) (x y : Run) (xs ys : List Run) → Chain Link t (x ∷ xs) → Chain Link u (y ∷ ys)
+      → x .call ≡ clear → x .answer ≡ cleared → y .call ≡ clear → y .answer ≡ cleared
+      → (lastTables t (x ∷ xs) ≡ lastTables u (y ∷ ys)) ↔ (arrayAfterRuns g (x ∷ xs) ≡ arrayAfterRuns g (y ∷ ys))
+  chains-equal-tables t u x y xs ys a b isx okx isy oky =
+      rw (ran t (x ∷ xs) a .ends, ran u (y ∷ ys) b .ends, isx, isy)
+      (equal-tables g t u (map (λ (x : Run). x .call) xs) (map (λ (x : Run). x .call) ys) (first-accepted t x xs a isx okx) (first-accepted u y ys b isy oky))
+
+-- The six calls and `perform`, in any mixture.
+module _ (g : Geometry) where
+  pub code-history : (t : Tables) (x : Run) (xs : List Run) → Chain (Made g) t (x ∷ xs) → x .call ≡ clear → x .answer ≡ cleared → CodeFollows g t (x ∷ xs)
+  code-history = chain-follows g (made-steps g)
+
+  pub code-equal-tables : (t u : Tables) (x y : Run) (xs ys : List Run) → Chain (Made g) t (x ∷ xs) → Chain (Made g) u (y ∷ ys)
+      → x .call ≡ clear → x .answer ≡ cleared → y .call ≡ clear → y .answer ≡ cleared
+      → (lastTables t (x ∷ xs) ≡ lastTables u (y ∷ ys)) ↔ (arrayAfterRuns g (x ∷ xs) ≡ arrayAfterRuns g (y ∷ ys))
+  code-equal-tables = chains-equal-tables g (made-steps g)

@@ -1,50 +1,53 @@
--- A history of the code: `perform` again and again, each time on the tables that the last one left.
+-- Histories of the code: calls that were made one after the other, each on the tables that the last one left.
 use Prim.Native.Nat.{ℕ}
 use mathlib.Core.Path.{_≡_}
-use mathlib.Core.List.{List, [], _∷_, map, zipWith}
+use mathlib.Core.List.{List, map}
+use Rattle.machines.specs.Chain as chain
 use Rattle.geometry.specs.declared.Geometry.{Geometry}
-use Rattle.reference.specs.Calls as calls
-use Rattle.reference.specs.Calls.{shape, matchesAfter}
+use Rattle.reference.specs.Calls.{Call, Answer, shape, lent, matchesAfter}
 use Rattle.reference.specs.Array.{Array, emptied}
 use Rattle.reference.specs.Tables.{Tables}
 use Rattle.reference.specs.Image.{tablesOf}
+use Rattle.reference.specs.Steps.{step}
 use Rattle.reference.specs.History.{arrayAnswers, arrayAfter}
-use Rattle.calls.specs.declared.Call.{Call}
-use Rattle.calls.specs.declared.Answer.{Answer}
-use Rattle.calls.specs.Answers.{callFor, answerFor, Performed}
+use Rattle.calls.specs.declared.Call as code
+use Rattle.calls.specs.declared.Answer as code-answer
+use Rattle.calls.specs.Answers.{callFor, answerFor, tables, left, Performed}
 
--- One run: the call and the match word that was lent, and what came back and was left.
+-- One call that was made: all that it was given, the match word that was lent, what came back and what was left.
 pub record Run : Type 0 where
-  pub call : Call
+  pub call : Call (List ℕ)
   pub lent : List ℕ
   pub answer : Answer
   pub tables : Tables
   pub matches : List ℕ
 
-abbrev pub callOf : Run → calls.Call (List ℕ)
-callOf x = callFor (x .call) (x .lent)
+-- A run on the tables t. What is known of it is what the function that was called ensures: one of the six calls, or `perform`,
+-- which is lent a match word with every call.
+pub data Made (g : Geometry) (t : Tables) : Run → Type 0 where
+  by-call : (c : Call (List ℕ)) (r : code-answer.Answer) (s i m : List ℕ) → left r s i m ≡ step g t c
+      → Made g t (record { call = c; lent = lent c; answer = answerFor r m; tables = tables s i; matches = m })
+  by-perform : (call : code.Call) (r : code-answer.Answer) (after : Tables) (m m′ : List ℕ) → Performed g call r t after m m′
+      → Made g t (record { call = callFor call m; lent = m; answer = answerFor r m′; tables = after; matches = m′ })
 
-abbrev pub answerOf : Run → calls.Answer
-answerOf x = answerFor (x .answer) (x .matches)
-
--- Runs one after the other, from the tables t.
-pub data Chain (g : Geometry) : Tables → List Run → Type 0 where
-  ended : {t : Tables} → Chain g t []
-  next : {t : Tables} {x : Run} {xs : List Run}
-      → Performed g (x .call) (x .answer) t (x .tables) (x .lent) (x .matches) → Chain g (x .tables) xs → Chain g t (x ∷ xs)
+-- Runs one after the other, from the tables t, where Link is what is known of each.
+abbrev pub Chain : (Link : Tables → Run → Type 0) → Tables → List Run → Type 0
+Chain Link = chain.Chain (λ (x : Run). x .tables) Link
 
 -- The tables that they leave.
 abbrev pub lastTables : Tables → List Run → Tables
-lastTables t [] = t
-lastTables t (x ∷ xs) = lastTables (x .tables) xs
+lastTables = chain.last (λ (x : Run). x .tables)
 
--- The plain array after the same calls, begun empty and fed their shapes.
+-- The calls of some runs as the plain array is told of them, and the array after them, begun empty.
+abbrev pub shapes : List Run → List (Call ℕ)
+shapes xs = map shape (map (λ (x : Run). x .call) xs)
+
 abbrev pub arrayAfterRuns : Geometry → List Run → Array
-arrayAfterRuns g xs = arrayAfter g (emptied g) (map shape (map callOf xs))
+arrayAfterRuns g xs = arrayAfter g (emptied g) (shapes xs)
 
 -- Demand 3 of the code: every answer is the plain array's; each match word is the one in the answer or else as lent; and at
 -- the end the store and every indicator word, padding bits included, are the array's.
 pub record CodeFollows (g : Geometry) (t : Tables) (xs : List Run) : Type 0 where
-  pub answers : map answerOf xs ≡ arrayAnswers g (emptied g) (map shape (map callOf xs))
-  pub matches : map (λ (x : Run). x .matches) xs ≡ zipWith matchesAfter (map answerOf xs) (map (λ (x : Run). x .lent) xs)
+  pub answers : map (λ (x : Run). x .answer) xs ≡ arrayAnswers g (emptied g) (shapes xs)
+  pub matches : map (λ (x : Run). x .matches) xs ≡ map (λ (x : Run). matchesAfter (x .answer) (x .lent)) xs
   pub tables : lastTables t xs ≡ tablesOf g (arrayAfterRuns g xs)

@@ -1,2 +1,4 @@
 pub mod Coding
+pub mod Told
+pub mod Histories
 pub mod Examples

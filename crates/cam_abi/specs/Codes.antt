@@ -1,10 +1,12 @@
--- The number that stands for an answer, and what an exported function gives and leaves.
-use Prim.Native.Nat.{ℕ, _+_, _*_}
+-- The number that stands for an answer, what it gives back, and what an exported function gives and leaves.
+use Prim.Native.Nat.{ℕ, _+_, _-_, _*_, _/_, _%_}
 use mathlib.Core.Path.{_≡_}
+use mathlib.Core.Bool.{cond}
 use mathlib.Core.List.{List}
+use lib.Dec.{eqb, ltb}
 use Rattle.geometry.specs.declared.Geometry.{Geometry}
-use Rattle.reference.specs.Entry.{wordOf}
-use Rattle.reference.specs.Calls.{Call, Answer, refused, cleared, held, at, none, matched}
+use Rattle.reference.specs.Entry.{Entry, empty, pattern, emptyWord, wordOf}
+use Rattle.reference.specs.Calls.{Call, clear, write, erase, read, firstMatch, allMatch, Answer, refused, cleared, held, at, none, matched}
 use Rattle.reference.specs.Tables.{Tables}
 use Rattle.reference.specs.Steps.{step}
 
@@ -17,6 +19,26 @@ codeOf (held e) = 256 + wordOf e
 codeOf (at a w c) = 256 + a + 65536 * w + 4294967296 * c
 codeOf (none w c) = 256 + 65535 + 65536 * w + 4294967296 * c
 codeOf (matched ws n) = 256 + n
+
+-- The entry in a value, and the address or none with both counts.
+abbrev pub entryIn : (value : ℕ) → Entry
+entryIn v = cond (eqb v emptyWord) empty (pattern v)
+
+abbrev pub placeIn : (address words-read entries-compared : ℕ) → Answer
+placeIn a w c = cond (eqb a 65535) (none w c) (at a w c)
+
+-- The answer that a value gives back to a call, with the match word after it.
+unfoldable pub valueTold : Call (List ℕ) → (value : ℕ) → (matches : List ℕ) → Answer
+valueTold clear v m = cleared
+valueTold (write a p) v m = held (entryIn v)
+valueTold (erase a) v m = held (entryIn v)
+valueTold (read a) v m = held (entryIn v)
+valueTold (firstMatch key) v m = placeIn (v % 65536) (v / 65536 % 65536) (v / 4294967296)
+valueTold (allMatch key lent) v m = matched m v
+
+-- And the number.
+unfoldable pub told : Call (List ℕ) → (number : ℕ) → (matches : List ℕ) → Answer
+told c n m = cond (ltb n 256) (refused n) (valueTold c (n - 256) m)
 
 abbrev pub four : (kind depth width set : ℕ) → Geometry
 four k d p w = record { kind = k; depth = d; «pattern_width» = p; «set_width» = w }

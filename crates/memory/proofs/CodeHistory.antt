@@ -31,7 +31,7 @@ outcome-steps e kept = record {
   matches = rw e kept;
 }
 
-made-steps : (g : Geometry) (t : Tables) (x : Run) → Made g t x → Steps g t x
+pub made-steps : (g : Geometry) (t : Tables) (x : Run) → Made g t x → Steps g t x
 made-steps g t x (by-call c r s i m e) = outcome-steps e (matches-after g t c)
 made-steps g t x (by-perform call r after m m′ p) = record {
   answer = p .answer;

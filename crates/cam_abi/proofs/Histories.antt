@@ -1,11 +1,10 @@
 -- Demand 3 of the exported functions: what a number gives back is the step's answer (`number-tells`), so a chain of them, or of
 -- them and the calls of `memory`, follows the plain array.
-use Prim.Native.Nat.{ℕ}
 use mathlib.Core.Path.{_≡_, ap₂, _∙_}
 use mathlib.Core.Logic.{_↔_}
 use mathlib.Core.List.{List, _∷_}
 use Rattle.geometry.specs.declared.Geometry.{Geometry}
-use Rattle.reference.specs.Calls.{clear, cleared, matchesAfter}
+use Rattle.reference.specs.Calls.{clear, cleared}
 use Rattle.reference.specs.Tables.{Tables}
 use Rattle.reference.proofs.Refused.{matches-after}
 use Rattle.memory.specs.Runs.{Run, Chain, lastTables, arrayAfterRuns, CodeFollows}

@@ -7,8 +7,8 @@ use mathlib.Core.Option as Option
 use mathlib.Core.Option.{Option}
 use native.Mathlib.Omega.{arith}
 use borrow.Author.Tests.{lt-ltb, le-ltb, ne-eqb}
-use Rattle.machines.specs.Refusals.{firstRefusal, Each}
-use Rattle.machines.proofs.Refusals.{given-says, passes}
+use Rattle.machines.specs.Refusals.{firstRefusal}
+use Rattle.machines.proofs.Refusals.{Each, given-says, passes}
 use Rattle.geometry.specs.declared.Geometry.{Geometry}
 use Rattle.geometry.specs.Sizes.{rowWords, addressOf}
 use Rattle.geometry.proofs.Facts.{Facts, facts, patterns-most}

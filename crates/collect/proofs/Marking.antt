@@ -10,8 +10,7 @@ use lib.Bits.{or-zero-l}
 use lib.ListN.{length, getD, replicate, length-replicate, getD-replicate}
 use lib.Seq.{ext-getD}
 use borrow.Author.Tests.{eqb-true, ltb-true, ltb-false, eq-eqb, ne-eqb, lt-ltb, le-ltb}
-use Rattle.words.specs.Rules.{tabulate}
-use Rattle.words.specs.Bits.{bit, word, setBit, clearBit, changeBit}
+use Rattle.words.specs.Bits.{bit, bitWords, setBit, clearBit, changeBit}
 use Rattle.words.proofs.Rules.{both-ways, digits-same, length-tabulate, getD-tabulate, tabulate-ext}
 use Rattle.words.proofs.Bits.{bits-equal, bit-zero, bit-or, bit-set, bit-clear, bit-change, bit-word-all, length-changeBit}
 use Rattle.geometry.specs.declared.Geometry.{Geometry}
@@ -35,8 +34,8 @@ pub same-marks : (r q : ℕ → Bool) (m ws : List ℕ) → marked r m ≡ marke
 same-marks r q m ws e = sym (length-marked r m) ∙ ap length e ∙ length-marked q ws
 
 -- words that were zero hold the rule alone
-pub marked-zeros : (r : ℕ → Bool) (n : ℕ) → marked r (replicate n 0) ≡ tabulate n (λ j. word 64 (λ b. r (64 * j + b)))
-unfolding marked
+pub marked-zeros : (r : ℕ → Bool) (n : ℕ) → marked r (replicate n 0) ≡ bitWords n r
+unfolding marked bitWords
 marked-zeros r n = rw length-replicate (tabulate-ext n _ _ (λ j l. rw (getD-replicate {A = ℕ} n j 0 0 l) (or-zero-l _)))
 
 bit-marked : (r : ℕ → Bool) (ws : List ℕ) (j b : ℕ) → j < length ws

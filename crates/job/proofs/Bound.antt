@@ -2,15 +2,16 @@
 -- each leaves the array sound, and the figures of a sound array's answers are small.
 use Prim.Native.Nat.{ℕ, zero, suc, _+_, _*_, _^_, _<_, _≤_}
 use mathlib.Core.Path.{_≡_, refl, ap}
-use mathlib.Core.Bool.{Bool, true, false, cond, _&&_, and-eq-true-iff}
+use mathlib.Core.Bool.{Bool, true, false, cond}
 use mathlib.Core.List.{List, [], _∷_}
 use mathlib.Core.Option.{Option, none, some}
-use native.Mathlib.Nat.{zero-add, div-le-self}
+use native.Mathlib.Nat.{div-le-self}
 use native.Mathlib.Omega.{arith}
-use lib.Dec.{ltb, eqb}
+use lib.Dec.{eqb}
 use lib.ListN.{length, length-append}
-use borrow.Author.Tests.{ltb-true}
-use Rattle.words.proofs.Rules.{count-most, length-tabulate}
+use Rattle.words.specs.Rules.{lowest}
+use Rattle.words.proofs.Rules.{count-most, LowestIs, at-first, at-none, lowest-is}
+use Rattle.words.proofs.Bits.{length-bitWords}
 use Rattle.geometry.specs.declared.Geometry.{Geometry}
 use Rattle.geometry.specs.Valid.{segmented, valid}
 use Rattle.geometry.specs.Sizes.{matchWords, setOf, offsetOf}
@@ -18,9 +19,9 @@ use Rattle.geometry.proofs.Facts.{Facts, facts, patterns-most, kind-most}
 use Rattle.geometry.proofs.Bounds.{words-few}
 use Rattle.geometry.proofs.Places.{length-most, offset-lt, matches-least}
 use Rattle.reference.specs.Calls.{Call, clear, write, erase, read, firstMatch, allMatch, held}
-use Rattle.machines.specs.Refusals.{RefusalRow, _given-when_, firstRefusal}
-use Rattle.reference.specs.Array.{Array, emptied, entryAt, Sound, lowest, counted, matchesOf, arrayRefusals, arrayAccepted, arrayOutcome, arrayStep}
-use Rattle.reference.proofs.Lowest.{holding, LowestIs, at-first, at-none, lowest-is, hits-are}
+use Rattle.machines.specs.Refusals.{firstRefusal}
+use Rattle.machines.proofs.Refusals.{Each, given-says}
+use Rattle.reference.specs.Array.{Array, emptied, entryAt, holding, Sound, counted, arrayRefusals, arrayAccepted, arrayOutcome, arrayStep}
 use Rattle.reference.proofs.Emptied.{emptied-sound}
 use Rattle.report.specs.Figures.{Bytes}
 use Rattle.report.specs.Lines.{answerLine, firstLine}
@@ -32,19 +33,6 @@ use Rattle.job.specs.Output.{obeyed, arrayCommand, answers, answersOf, n
 use Rattle.job.proofs.Unstopped.{Unstopped, unstopped}
 use Rattle.job.proofs.Obeying.{command-sound}
 
--- ---- numbers that stop
-
--- whether each row gives a number of one figure
-abbrev oneFigure : List RefusalRow → Bool
-oneFigure [] = true
-oneFigure ((n given-when test) ∷ rows) = ltb n 10 && oneFigure rows
-
-refusal-small : (rows : List RefusalRow) → oneFigure rows ≡ true → (n : ℕ) → firstRefusal rows ≡ some n → n < 10
-unfolding firstRefusal
-refusal-small [] few n e = absurd (let z : _≡_ {A = ℕ} 0 1 = cc in omega arith)
-refusal-small ((m given-when true) ∷ rows) few n e = let same : m ≡ n = cc in let here = simp and-eq-true-iff at few in omega (arith, ltb-true)
-refusal-small ((m given-when false) ∷ rows) few n e = refusal-small rows ((simp and-eq-true-iff at few) .1) n e
-
 -- ---- answers
 
 module _ (g : Geometry) (ok : valid g ≡ true) (shallow : g .depth ≤ 1024) (es : Array) (sound : Sound g es) where
@@ -54,40 +42,38 @@ module _ (g : Geometry) (ok : valid g ≡ true) (shallow : g .depth ≤ 1024) (e
   held-small : (a : ℕ) → Small (held (entryAt es a))
   held-small a p e = omega (arith, sound .fits a p e, patterns-most g f)
 
-  counted-small : (key : ℕ) → Small (counted g (lowest key 0 es))
+  counted-small : (key : ℕ) → Small (counted g (lowest (g .depth) (holding es key)))
   unfolding counted
-  counted-small key = go (lowest-is key 0 es)
+  counted-small key = go (lowest-is (g .depth) (holding es key))
     where
       compared : (a : ℕ) → a < g .depth → (b : Bool) → cond b (offsetOf g a + 1) 0 < 10 ^ 4
       compared a h true = omega (arith, offset-lt g f a h, length-most g f (setOf g a))
       compared a h false = omega arith
 
-      go : LowestIs key 0 es (lowest key 0 es) → Small (counted g (lowest key 0 es))
+      go : LowestIs (g .depth) (holding es key) (lowest (g .depth) (holding es key)) → Small (counted g (lowest (g .depth) (holding es key)))
       go (at-first i found first) =
-          let inside : i < 1024 = omega (arith, first .within, sound .long) in
-          rw (found, zero-add i) (omega arith, omega (arith, div-le-self i (64 * g .«set_width»)), compared i (omega (arith, first .within, sound .long)) (eqb (g .kind) segmented))
+          let inside : i < 1024 = omega (arith, first .within) in
+          rw found (omega arith, omega (arith, div-le-self i (64 * g .«set_width»)), compared i (first .within) (eqb (g .kind) segmented))
       go (at-none missing nowhere) = rw missing (omega (arith, words-few g f), omega arith)
 
   accepted-small : (c : Call ℕ) → Small (arrayAccepted g es c .answer)
-  unfolding arrayAccepted matchesOf
+  unfolding arrayAccepted
   accepted-small clear = tt
   accepted-small (write a p) = held-small a
   accepted-small (erase a) = held-small a
   accepted-small (read a) = held-small a
   accepted-small (firstMatch key) = counted-small key
-  accepted-small (allMatch key len) = (
-    simp length-tabulate (omega (arith, matches-least g f)),
-    omega (arith, hits-are key es, count-most (length es) (holding es key), sound .long),
-  )
+  accepted-small (allMatch key len) = (simp length-bitWords (omega (arith, matches-least g f)), omega (arith, count-most (g .depth) (holding es key)))
 
-  refusals-small : (c : Call ℕ) → oneFigure (arrayRefusals g c) ≡ true
+  -- every number that stops a call has one figure
+  refusals-small : (c : Call ℕ) → Each (λ n. n < 10) (arrayRefusals g c)
   unfolding arrayRefusals
-  refusals-small clear = refl
-  refusals-small (write a p) = refl
-  refusals-small (erase a) = refl
-  refusals-small (read a) = refl
-  refusals-small (firstMatch key) = refl
-  refusals-small (allMatch key len) = refl
+  refusals-small clear = tt
+  refusals-small (write a p) = (λ b. omega arith, (λ b. omega arith, tt))
+  refusals-small (erase a) = (λ b. omega arith, tt)
+  refusals-small (read a) = (λ b. omega arith, tt)
+  refusals-small (firstMatch key) = (λ b. omega arith, tt)
+  refusals-small (allMatch key len) = (λ b. omega arith, (λ b. omega arith, tt))
 
   command-small : (c : Command) → Small (arrayCommand g es c .answer)
   unfolding arrayCommand obeyed arrayStep arrayOutcome
@@ -95,7 +81,7 @@ module _ (g : Geometry) (ok : valid g ≡ true) (shallow : g .depth ≤ 1024) (e
     where
       given : (call : Call ℕ) (r : Option ℕ) → firstRefusal (arrayRefusals g call) ≡ r → Small (arrayOutcome g es call r .answer)
       given call none e = accepted-small call
-      given call (some n) e = refusal-small (arrayRefusals g call) (refusals-small call) n e
+      given call (some n) e = given-says (λ n. n < 10) (arrayRefusals g call) n (refusals-small call) e
 
       go : (d : Option (Call ℕ)) → Small (obeyed g es d .answer)
       go none = omega arith
@@ -148,4 +134,5 @@ output-short file = go (fileStop file) refl
   where
     go : (r : Option ℕ) → fileStop file ≡ r → length (printed file r) ≤ 391215
     go none e = report-most file (unstopped file e)
-    go (some n) e = omega (arith, stop-line-most n (refusal-small (fileStops file) refl n e))
+    go (some n) e =
+        omega (arith, stop-line-most n (given-says (λ n. n < 10) (fileStops file) n (λ b. omega arith, (λ b. omega arith, (λ b. omega arith, tt))) e))

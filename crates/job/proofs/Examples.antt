@@ -1,15 +1,15 @@
 -- The examples hold: antt computes `output` of each file and compares every byte.
 use mathlib.Core.Path.{_≡_, refl}
 use mathlib.Core.List.{map}
-use Rattle.words.specs.Rules.{tabulate}
-use Rattle.words.specs.Bits.{word}
+use Rattle.words.specs.Rules.{count, lowest, tabulate}
+use Rattle.words.specs.Bits.{word, bitWords}
 use Rattle.geometry.specs.Valid.{valid}
 use Rattle.geometry.specs.Sizes.{patterns, sets, rowWords, matchWords}
 use Rattle.geometry.specs.Stages.{stages, stageWidth, rows, indicatorWords}
 use Rattle.reference.specs.Entry.{holds}
 use Rattle.machines.specs.Refusals.{firstRefusal}
 use Rattle.reference.specs.Refusals.{badAddress, badPattern}
-use Rattle.reference.specs.Array.{emptied, lowest, counted, matchesOf, hits, arrayRefusals, arrayAccepted, arrayOutcome, arrayStep}
+use Rattle.reference.specs.Array.{emptied, counted, arrayRefusals, arrayAccepted, arrayOutcome, arrayStep}
 use Rattle.report.specs.Figures.{ascii, places, decimal, hexadecimal}
 use Rattle.report.specs.Lines.{ended, line, entryText, answerItems, answerLine, firstLine, stopLine}
 use Rattle.job.specs.Files.{field, headerOf, commandAt, commandsFrom, commandsOutside, badFile, tooLarge, geometryStops, fileStops}
@@ -18,5 +18,5 @@ use Rattle.job.specs.Output.{obeyed, arrayCommand, answers, numbered, re
 use Rattle.job.specs.Examples.{Example, bytesOf, linesOf, examples}
 
 pub examples-hold : map (λ (e : Example). output (e .file)) examples ≡ map (λ (e : Example). e .prints) examples
-unfolding tabulate word valid patterns sets rowWords matchWords stages stageWidth rows indicatorWords holds firstRefusal badAddress badPattern emptied lowest counted matchesOf hits arrayRefusals arrayAccepted arrayOutcome arrayStep ascii places decimal hexadecimal ended line entryText answerItems answerLine firstLine stopLine field headerOf commandAt commandsFrom commandsOutside badFile tooLarge geometryStops fileStops decoded obeyed arrayCommand answers numbered report printed output bytesOf linesOf examples
+unfolding count lowest tabulate word bitWords valid patterns sets rowWords matchWords stages stageWidth rows indicatorWords holds firstRefusal badAddress badPattern emptied counted arrayRefusals arrayAccepted arrayOutcome arrayStep ascii places decimal hexadecimal ended line entryText answerItems answerLine firstLine stopLine field headerOf commandAt commandsFrom commandsOutside badFile tooLarge geometryStops fileStops decoded obeyed arrayCommand answers numbered report printed output bytesOf linesOf examples
 examples-hold = refl

@@ -1,11 +1,11 @@
 -- What the number that a table gives tells of its rows. By induction on the rows.
 use Prim.Native.Nat.{ℕ}
 use mathlib.Core.Path.{_≡_, refl, sym, ap, _∙_}
-use mathlib.Core.Bool.{Bool, true, false, true≢false}
+use mathlib.Core.Bool.{true, false, true≢false}
 use mathlib.Core.List.{List, [], _∷_, _++_, append-nil}
-use mathlib.Core.Option.{Option, none, some}
+use mathlib.Core.Option.{none, some}
 use native.Mathlib.Omega.{arith}
-use Rattle.machines.specs.Refusals.{RefusalRow, _given-when_, firstRefusal, Passed, FirstApplies, Each}
+use Rattle.machines.specs.Refusals.{RefusalRow, _given-when_, firstRefusal, Passed, FirstApplies}
 
 -- where no number is given, every row is passed
 pub passes : (rows : List RefusalRow) → firstRefusal rows ≡ none → Passed rows
@@ -46,7 +46,12 @@ last-passes [] n = refl
 last-passes ((m given-when true) ∷ rows) n = refl
 last-passes ((m given-when false) ∷ rows) n = last-passes rows n
 
--- what each row says when its test holds, the row that is given says
+-- Each row says P of its number where its test holds.
+abbrev pub Each : (ℕ → Type 0) → List RefusalRow → Type 0
+Each P [] = Unit
+Each P ((n given-when test) ∷ rest) = (test ≡ true → P n) × Each P rest
+
+-- then the row that is given says it
 pub given-says : (P : ℕ → Type 0) (rows : List RefusalRow) (n : ℕ) → Each P rows → firstRefusal rows ≡ some n → P n
 unfolding firstRefusal
 given-says P [] n each e = absurd (let z : _≡_ {A = ℕ} 0 1 = cc in omega arith)

@@ -26,8 +26,3 @@ pub record FirstApplies (rows : List RefusalRow) (n : ℕ) : Type 0 where
   pub below : List RefusalRow
   pub split : rows ≡ above ++ (n given-when true ∷ below)
   pub passed : Passed above
-
--- Each row says P of its number where its test holds.
-abbrev pub Each : (ℕ → Type 0) → List RefusalRow → Type 0
-Each P [] = Unit
-Each P ((n given-when test) ∷ rest) = (test ≡ true → P n) × Each P rest

@@ -1,11 +1,11 @@
 -- Demand 3 of the code: a chain of runs is the history of its calls, and that is the plain array's. Shown for every kind of link
 -- from which a run is known to be its step (`Steps`), and then for what the calls ensure.
 use Prim.Native.Nat.{ℕ}
-use mathlib.Core.Path.{_≡_, refl, sym, ap, _∙_}
+use mathlib.Core.Path.{_≡_, sym, ap, _∙_}
 use mathlib.Core.Logic.{_↔_}
 use mathlib.Core.List.{List, _∷_, map}
 use Rattle.machines.specs.Chain.{next}
-use Rattle.machines.proofs.Runs.{Is, Are, chain-is, chain-each}
+use Rattle.machines.proofs.Runs.{Are, chain-is, chain-each}
 use Rattle.geometry.specs.declared.Geometry.{Geometry}
 use Rattle.reference.specs.Calls.{Call, Answer, clear, cleared, matchesAfter}
 use Rattle.reference.specs.Tables.{Tables}

@@ -1,21 +1,21 @@
 -- One call on the tables of an array agrees with the same call on the array: answer, tables and refusal number.
-use Prim.Native.Nat.{ℕ, _+_, _*_, _<_}
+use Prim.Native.Nat.{ℕ, _<_}
 use mathlib.Core.Path.{_≡_, refl, sym, ap, ap₂, _∙_}
 use mathlib.Core.Logic.{_⊎_, inl, inr}
 use mathlib.Core.Bool.{Bool, true, false, not, false≢true}
 use mathlib.Core.List.{List, [], _∷_, _++_}
 use mathlib.Core.Option as Option
 use mathlib.Core.Option.{Option}
-use native.Mathlib.Nat.{zero-add}
 use native.Mathlib.Omega.{arith}
 use lib.Dec.{eqb}
 use lib.ListN.{length, set, length-set}
 use lib.Seq.{getD-set-same, getD-set-other}
 use borrow.Author.Tests.{eqb-true, eqb-false}
+use Rattle.words.specs.Rules as rule
 use Rattle.words.specs.Rules.{count, First}
-use Rattle.words.specs.Bits.{totalOnes}
-use Rattle.words.proofs.Rules.{count-ext, tabulate-ext, first-unique}
-use Rattle.words.proofs.Bits.{word-ext}
+use Rattle.words.specs.Bits.{bitWords, totalOnes}
+use Rattle.words.proofs.Rules.{count-ext, first-unique, LowestIs, at-first, at-none, lowest-is}
+use Rattle.words.proofs.Bits.{bitWords-ext}
 use Rattle.geometry.specs.declared.Geometry.{Geometry}
 use Rattle.geometry.specs.Valid.{valid}
 use Rattle.geometry.specs.Sizes.{patterns, matchWords}
@@ -24,8 +24,7 @@ use Rattle.reference.specs.Entry.{Entry, empty, pattern, Fits, wordOf, h
 use Rattle.reference.specs.Calls.{Call, clear, write, erase, read, firstMatch, allMatch, shape, held, matched}
 use Rattle.machines.specs.Refusals.{RefusalRow, _given-when_, firstRefusal, Passed}
 use Rattle.reference.specs.Refusals.{badAddress, badPattern}
-use Rattle.reference.specs.Array as Array
-use Rattle.reference.specs.Array.{Array, entryAt, counted, matchesOf, hits, arrayRefusals, ArrayOutcome, arrayAccepted, arrayOutcome, arrayStep, Sound}
+use Rattle.reference.specs.Array.{Array, entryAt, holding, counted, arrayRefusals, ArrayOutcome, arrayAccepted, arrayOutcome, arrayStep, Sound}
 use Rattle.reference.specs.Tables.{storeWord}
 use Rattle.reference.specs.Image.{tablesOf}
 use Rattle.reference.specs.Search.{firstFound, answerOf, taken, takenWords}
@@ -37,7 +36,6 @@ use Rattle.reference.proofs.Covering.{holds-word}
 use Rattle.reference.proofs.Mirrored.{first-is, first-not-false, none-false, taken-is}
 use Rattle.reference.proofs.Searched.{first-any, taken-counted}
 use Rattle.reference.proofs.Image.{store-word, store-entry, image-mirrors, replaced-image}
-use Rattle.reference.proofs.Lowest.{holding, LowestIs, at-first, at-none, lowest-is, hits-are}
 use Rattle.machines.proofs.Refusals.{passes, last-passes}
 use Rattle.reference.proofs.Emptied.{emptied-sound, cleared-tables}
 
@@ -92,37 +90,34 @@ module _ (g : Geometry) (ok : valid g ≡ true) (es : Array) (sound : Sound g es
 
   -- ---- the searches agree
 
-  first-agrees : (key : ℕ) → key < patterns g → answerOf (firstFound g (tablesOf g es) key) ≡ counted g (Array.lowest key 0 es)
+  first-agrees : (key : ℕ) → key < patterns g → answerOf (firstFound g (tablesOf g es) key) ≡ counted g (rule.lowest (g .depth) (holding es key))
   unfolding counted
-  first-agrees key small = go (first-is g f (tablesOf g es) mirrors key small _ (first-any g f (tablesOf g es) key)) (lowest-is key 0 es)
+  first-agrees key small = go (first-is g f (tablesOf g es) mirrors key small _ (first-any g f (tablesOf g es) key)) (lowest-is (g .depth) (holding es key))
     where
-      there : (i : ℕ) → First (length es) (holding es key) i → First (g .depth) (stores (tablesOf g es) key) i
+      there : (i : ℕ) → First (g .depth) (holding es key) i → First (g .depth) (stores (tablesOf g es) key) i
       there i h = record {
-        within = omega (arith, h .within, sound .long);
+        within = h .within;
         here = held-is key small i ∙ h .here;
         none-before = λ j l. held-is key small j ∙ h .none-before j l;
       }
 
-      go : FirstIs g (tablesOf g es) key (answerOf (firstFound g (tablesOf g es) key)) → LowestIs key 0 es (Array.lowest key 0 es)
-          → answerOf (firstFound g (tablesOf g es) key) ≡ counted g (Array.lowest key 0 es)
-      go (lowest a first answer) (at-first i low low-first) = rw (low, zero-add i, ← first-unique (g .depth) _ a i first (there i low-first)) answer
+      go : FirstIs g (tablesOf g es) key (answerOf (firstFound g (tablesOf g es) key)) → LowestIs (g .depth) (holding es key) (rule.lowest (g .depth) (holding es key))
+          → answerOf (firstFound g (tablesOf g es) key) ≡ counted g (rule.lowest (g .depth) (holding es key))
+      go (lowest a first answer) (at-first i low low-first) = rw (low, ← first-unique (g .depth) _ a i first (there i low-first)) answer
       go (lowest a first answer) (at-none low nowhere) =
-          absurd (false≢true (sym (nowhere a (omega (arith, first .within, sound .long))) ∙ sym (held-is key small a) ∙ first .here))
+          absurd (false≢true (sym (nowhere a (first .within)) ∙ sym (held-is key small a) ∙ first .here))
       go (absent nowhere answer) (at-first i low first) = absurd (false≢true (sym (nowhere i (there i first .within)) ∙ there i first .here))
       go (absent nowhere answer) (at-none low _) = rw low answer
 
   taken-holds : (key : ℕ) → key < patterns g → (a : ℕ) → taken g (tablesOf g es) key a ≡ holding es key a
   taken-holds key small a = taken-is g f (tablesOf g es) mirrors key small a ∙ held-is key small a
 
-  matches-agree : (key : ℕ) → key < patterns g → takenWords g (tablesOf g es) key ≡ matchesOf g es key
-  unfolding takenWords matchesOf
-  matches-agree key small = tabulate-ext (matchWords g) _ _ (λ j l. word-ext 64 _ _ (λ b m. taken-holds key small (64 * j + b)))
+  matches-agree : (key : ℕ) → key < patterns g → takenWords g (tablesOf g es) key ≡ bitWords (matchWords g) (holding es key)
+  unfolding takenWords
+  matches-agree key small = bitWords-ext (matchWords g) _ _ (taken-holds key small)
 
-  hits-agree : (key : ℕ) → key < patterns g → totalOnes (takenWords g (tablesOf g es) key) ≡ hits key es
-  hits-agree key small =
-      taken-counted g f (tablesOf g es) key
-      ∙ count-ext (g .depth) _ (holding es key) (λ a l. taken-holds key small a)
-      ∙ ap (λ n. count n (holding es key)) (sym (sound .long)) ∙ sym (hits-are key es)
+  hits-agree : (key : ℕ) → key < patterns g → totalOnes (takenWords g (tablesOf g es) key) ≡ count (g .depth) (holding es key)
+  hits-agree key small = taken-counted g f (tablesOf g es) key ∙ count-ext (g .depth) _ (holding es key) (λ a l. taken-holds key small a)
 
   -- ---- every call agrees
 

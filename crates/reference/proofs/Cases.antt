@@ -4,7 +4,7 @@ use mathlib.Core.Path.{_≡_, refl}
 use mathlib.Core.List.{map}
 use lib.Count.{trailingZeros}
 use Rattle.words.specs.Rules.{any, count, member, keep, tabulate}
-use Rattle.words.specs.Bits.{bit, setBit, clearBit, changeBit, rowMask, word, totalOnes}
+use Rattle.words.specs.Bits.{bit, setBit, clearBit, changeBit, rowMask, word, bitWords, totalOnes}
 use Rattle.words.specs.Seek.{seek}
 use Rattle.geometry.specs.Valid.{valid}
 use Rattle.geometry.specs.Sizes.{patterns, sets, rowWords, matchWords, setLength}
@@ -15,16 +15,17 @@ use Rattle.machines.specs.Refusals.{firstRefusal}
 use Rattle.machines.specs.Machine as machine
 use Rattle.reference.specs.Refusals.{badAddress, badPattern}
 use Rattle.reference.specs.Image.{entryRows, covers}
-use Rattle.reference.specs.Update.{change, othersCover, released, replaced}
+use Rattle.cover.specs.Change.{change, othersCover, moved}
+use Rattle.reference.specs.Update.{replaced}
 use Rattle.reference.specs.Search.{joined, indicated, seekWord, seekEntry, lowestSet, isFalse, inSet, firstFound, anyIsFalse, answerOf, taken, takenWords}
 use Rattle.reference.specs.Steps.{badLengths, badMatches, badEntry, ownRefusals, refusals, clearTables, accepted, outcome, step, Outcome}
 use Rattle.reference.specs.History.{run}
 use Rattle.reference.specs.Cases.{Case, cases, Trial, trials}
 
 pub cases-hold : map (λ (r : Case). map (λ (o : Outcome). o .answer) (run (r .geometry) (r .tables) (r .calls))) cases ≡ map (λ (r : Case). r .answers) cases
-unfolding trailingZeros any count member keep tabulate bit setBit clearBit changeBit rowMask word totalOnes seek valid patterns sets rowWords matchWords setLength stages stageWidth stage rowOf rowsOf rows indicatorWords wordOf entryOf firstRefusal badAddress badPattern entryRows covers change othersCover released replaced joined indicated seekWord seekEntry lowestSet isFalse inSet firstFound anyIsFalse answerOf taken takenWords badLengths badMatches badEntry ownRefusals refusals clearTables accepted outcome step machine.run cases
+unfolding trailingZeros any count member keep tabulate bit setBit clearBit changeBit rowMask word bitWords totalOnes seek valid patterns sets rowWords matchWords setLength stages stageWidth stage rowOf rowsOf rows indicatorWords wordOf entryOf firstRefusal badAddress badPattern entryRows covers change othersCover moved replaced joined indicated seekWord seekEntry lowestSet isFalse inSet firstFound anyIsFalse answerOf taken takenWords badLengths badMatches badEntry ownRefusals refusals clearTables accepted outcome step machine.run cases
 cases-hold = refl
 
 pub trials-hold : map (λ (r : Trial). step (r .geometry) (r .tables) (r .call)) trials ≡ map (λ (r : Trial). r .leaves) trials
-unfolding trailingZeros any count member keep tabulate bit setBit clearBit changeBit rowMask word totalOnes seek valid patterns sets rowWords matchWords setLength stages stageWidth stage rowOf rowsOf rows indicatorWords wordOf entryOf firstRefusal badAddress badPattern entryRows covers change othersCover released replaced joined indicated seekWord seekEntry lowestSet isFalse inSet firstFound anyIsFalse answerOf taken takenWords badLengths badMatches badEntry ownRefusals refusals clearTables accepted outcome step lent trials
+unfolding trailingZeros any count member keep tabulate bit setBit clearBit changeBit rowMask word bitWords totalOnes seek valid patterns sets rowWords matchWords setLength stages stageWidth stage rowOf rowsOf rows indicatorWords wordOf entryOf firstRefusal badAddress badPattern entryRows covers change othersCover moved replaced joined indicated seekWord seekEntry lowestSet isFalse inSet firstFound anyIsFalse answerOf taken takenWords badLengths badMatches badEntry ownRefusals refusals clearTables accepted outcome step lent trials
 trials-hold = refl

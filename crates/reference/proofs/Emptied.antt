@@ -1,20 +1,19 @@
 -- A clear leaves the tables of the empty array.
-use Prim.Native.Nat.{ℕ, zero, suc, _+_, _*_, _/_, _%_}
-use mathlib.Core.Path.{_≡_, refl, sym, ap, _∙_}
-use mathlib.Core.Bool.{Bool, true, false, and-false}
+use Prim.Native.Nat.{ℕ, zero, suc}
+use mathlib.Core.Path.{_≡_, refl, ap}
+use mathlib.Core.Bool.{Bool, true, false}
 use mathlib.Core.List.{List, _∷_, map}
 use lib.Dec.{ltb}
 use lib.ListN.{replicate, length-replicate, getD-replicate, List·getD-eq-default}
 use borrow.Author.Tests.{ltb-true, ltb-false}
 use Rattle.words.specs.Rules.{member}
-use Rattle.words.proofs.Rules.{any-false, list-tabulate}
-use Rattle.words.proofs.Bits.{bits-equal, bit-zero, bit-word-all}
 use Rattle.geometry.specs.declared.Geometry.{Geometry}
-use Rattle.geometry.specs.Sizes.{rowWords, addressOf, setLength}
 use Rattle.geometry.specs.Stages.{indicatorWords}
+use Rattle.cover.specs.Image.{image}
+use Rattle.cover.proofs.Image.{image-none}
 use Rattle.reference.specs.Entry.{empty, emptyWord, wordOf}
 use Rattle.reference.specs.Array.{emptied, entryAt, Sound}
-use Rattle.reference.specs.Image.{entryRows, covers, covered, image, tablesOf}
+use Rattle.reference.specs.Image.{entryRows, covers, arrayCover, tablesOf}
 use Rattle.reference.proofs.Entries.{empty-fits}
 use Rattle.reference.specs.Steps.{clearTables}
 
@@ -39,16 +38,9 @@ map-replicate zero = refl
 map-replicate (suc n) = ap (λ (l : List ℕ). emptyWord ∷ l) (map-replicate n)
 
 -- no entry covers a row
-not-covered : (g : Geometry) (r s : ℕ) → covered g (entryAt (emptied g)) r s ≡ false
-unfolding covered covers entryRows member
-not-covered g r s = any-false (setLength g s) _ (λ o l. rw (entry-of-emptied g (addressOf g s o)))
-
-zeros : (g : Geometry) → replicate (indicatorWords g) 0 ≡ image g (emptied g)
-unfolding image
-zeros g =
-    list-tabulate (replicate (indicatorWords g) 0) (indicatorWords g) _ (length-replicate (indicatorWords g) 0)
-    (λ m h. getD-replicate (indicatorWords g) m 0 0 h
-    ∙ bits-equal 0 _ (λ b. bit-zero b ∙ sym (bit-word-all 64 _ b ∙ rw (not-covered g (m / rowWords g) (64 * (m % rowWords g) + b)) (and-false (ltb b 64)))))
+zeros : (g : Geometry) → replicate (indicatorWords g) 0 ≡ image g (arrayCover g (emptied g))
+unfolding covers entryRows member
+zeros g = image-none g _ (λ a r. rw (entry-of-emptied g a))
 
 pub cleared-tables : (g : Geometry) → clearTables g ≡ tablesOf g (emptied g)
 unfolding clearTables tablesOf emptied

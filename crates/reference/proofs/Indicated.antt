@@ -13,7 +13,8 @@ use Rattle.geometry.proofs.Facts.{Facts}
 use Rattle.geometry.proofs.Places.{length-pos, length-single}
 use Rattle.geometry.proofs.Stages.{stage-lt, row-lt}
 use Rattle.reference.specs.Tables.{Tables, storeWord, storeEntry}
-use Rattle.reference.specs.Image.{covers, covered}
+use Rattle.cover.specs.Image.{covered}
+use Rattle.reference.specs.Image.{covers, storeCover}
 use Rattle.reference.specs.Search.{indicated}
 use Rattle.reference.specs.Statements.{Mirrors, stores}
 use Rattle.reference.proofs.Covering.{covers-key, key-covers}
@@ -25,7 +26,7 @@ module _ (g : Geometry) (f : Facts g) (t : Tables) (mirrors : Mirrors g t) (key 
   heldIn s = any (setLength g s) (λ o. stores t key (addressOf g s o))
 
   -- A set whose entries cover every row of the key between them holds it: there is but one entry, or one row.
-  held : (s : ℕ) → s < sets g → ((k : ℕ) → k < stages g → covered g (storeEntry g t) (rowOf g key k) s ≡ true) → heldIn s ≡ true
+  held : (s : ℕ) → s < sets g → ((k : ℕ) → k < stages g → covered g (storeCover g t) (rowOf g key k) s ≡ true) → heldIn s ≡ true
   unfolding covered
   held s inside all = go (length-single g f s)
     where

@@ -1,14 +1,12 @@
 pub mod Limits
 pub mod Entries
 pub mod Refused
-pub mod Cells
 pub mod Replaced
 pub mod Searched
 pub mod Covering
 pub mod Indicated
 pub mod Mirrored
 pub mod Image
-pub mod Lowest
 pub mod Emptied
 pub mod Agreement
 pub mod History

@@ -1,6 +1,6 @@
 -- Statement 3: on any tables of the right lengths whose indicators mirror the store, first-match gives the lowest address
 -- that holds the key, or none exactly when no address does, and all-match the full word. Neither refuses with 6.
-use Prim.Native.Nat.{ℕ, _+_, _*_, _<_, _≤_}
+use Prim.Native.Nat.{ℕ, _<_, _≤_}
 use mathlib.Core.Path.{_≡_, refl, sym, ap₂, _∙_}
 use mathlib.Core.Logic.{_⊎_, inl, inr}
 use mathlib.Core.Bool.{Bool, true, false, false≢true}
@@ -11,8 +11,8 @@ use lib.Dec.{eqb, ltb}
 use lib.ListN.{length, List·getD-eq-default}
 use borrow.Author.Tests.{ltb-true, ltb-false, eqb-true, eq-eqb, ne-eqb}
 use Rattle.words.specs.Rules.{First}
-use Rattle.words.proofs.Rules.{both-ways, refuted, any-witness, any-true, none-of-any, count-ext, tabulate-ext}
-use Rattle.words.proofs.Bits.{word-ext}
+use Rattle.words.proofs.Rules.{both-ways, refuted, any-witness, any-true, none-of-any, count-ext}
+use Rattle.words.proofs.Bits.{bitWords-ext}
 use Rattle.geometry.specs.declared.Geometry.{Geometry}
 use Rattle.geometry.specs.Valid.{valid, segmented}
 use Rattle.geometry.specs.Sizes.{patterns, sets, matchWords, setOf, offsetOf, addressOf, setLength}
@@ -124,5 +124,5 @@ module _ (g : Geometry) (ok : valid g ≡ true) (t : Tables) (mirrors : Mirrors 
 
       go : AllOnAny g t key (step g t (allMatch key m) .answer) → AllAre g t key (step g t (allMatch key m) .answer)
       go (all-taken no-false e) =
-          e ∙ ap₂ matched (tabulate-ext (matchWords g) _ _ (λ j l. word-ext 64 _ _ (λ b m. same (64 * j + b)))) (count-ext (g .depth) _ _ (λ a l. same a))
+          e ∙ ap₂ matched (bitWords-ext (matchWords g) _ _ same) (count-ext (g .depth) _ _ (λ a l. same a))
       go (AllOnAny.no-equal s inside h none-equal e) = absurd (no-false-set g (facts g ok) t mirrors key small s h none-equal)

@@ -7,7 +7,7 @@ use mathlib.Core.List.{List, [], _∷_}
 use native.Mathlib.Omega.{arith}
 use lib.Dec.{eqb, ltb}
 use lib.ListN.{getD, List·getD-eq-default}
-use borrow.Author.Tests.{lt-ltb, eqb-true, eq-eqb}
+use borrow.Author.Tests.{eqb-true, eq-eqb}
 use Rattle.words.specs.Rules.{any, member}
 use Rattle.words.specs.Bits.{bit}
 use Rattle.words.proofs.Rules.{both-ways, any-ext, any-false}
@@ -16,20 +16,21 @@ use Rattle.geometry.specs.Valid.{valid, cascaded, segmented}
 use Rattle.geometry.specs.Sizes.{patterns, sets, rowWords, setOf, addressOf, setLength}
 use Rattle.geometry.specs.Stages.{stages, stageWidth, stage, rowOf, rowsOf, rows}
 use Rattle.geometry.proofs.Facts.{Facts, facts}
-use Rattle.geometry.proofs.Places.{address-past, alone-address, alone-set, word-lt}
+use Rattle.geometry.proofs.Places.{address-past, alone-address, alone-set}
 use Rattle.geometry.proofs.Stages.{row-lt, row-among, one-stage-kind, one-row, one-stage}
 use Rattle.reference.specs.Entry.{Entry, empty, pattern, Fits, holds}
 use Rattle.reference.specs.Calls.{write, erase, held}
 use Rattle.reference.specs.Array.{Array, entryAt, Sound}
-use Rattle.reference.specs.Tables.{Tables, storeWord, storeEntry, cell}
-use Rattle.reference.specs.Image.{covers, covered, entryRows, image}
-use Rattle.reference.specs.Update.{othersCover}
+use Rattle.cover.specs.Image.{cell, covered, image}
+use Rattle.cover.specs.Change.{othersCover}
+use Rattle.cover.proofs.Image.{image-cell, image-bit}
+use Rattle.reference.specs.Tables.{Tables, storeWord, storeEntry}
+use Rattle.reference.specs.Image.{covers, entryRows, arrayCover, storeCover}
 use Rattle.reference.specs.Steps.{ownRefusals, refusals, step}
 use Rattle.reference.specs.Statements.{EveryBit, holdsStage, othersHold, PatternBits, StageBits}
 use Rattle.reference.proofs.Limits.{pattern-passes}
 use Rattle.reference.proofs.Replaced.{covers-lt, held-passed, write-bits, erase-bits}
 use Rattle.reference.proofs.Entries.{empty-fits, pattern-fits, word-fits}
-use Rattle.reference.proofs.Image.{image-cell}
 
 -- "Slice k starts at word R × 512 × k; its row r begins R × r words later."
 pub stage-starts : (g : Geometry) (ind : List ℕ) (p k j b : ℕ)
@@ -38,7 +39,7 @@ unfolding rowOf
 stage-starts g ind p k j b = ap (λ m. bit (getD ind m 0) b) (omega arith)
 
 -- past the last set there is no address to cover a row
-uncovered : (g : Geometry) → Facts g → (es : Array) → Sound g es → (r s : ℕ) → sets g ≤ s → covered g (entryAt es) r s ≡ false
+uncovered : (g : Geometry) → Facts g → (es : Array) → Sound g es → (r s : ℕ) → sets g ≤ s → covered g (arrayCover g es) r s ≡ false
 unfolding covered covers entryRows member
 uncovered g f es sound r s past =
     any-false (setLength g s) _
@@ -46,16 +47,9 @@ uncovered g f es sound r s past =
 
 -- "Spare bits are 0."
 pub image-padding : (g : Geometry) → valid g ≡ true → (es : Array) → Sound g es → (r j b : ℕ) → r < rows g → j < rowWords g → sets g ≤ 64 * j + b
-    → cell g (image g es) r j b ≡ false
+    → cell g (image g (arrayCover g es)) r j b ≡ false
 image-padding g ok es sound r j b hr hj past =
-    image-cell g (facts g ok) es sound r j b hr hj ∙ rw (uncovered g (facts g ok) es sound r (64 * j + b) past) (and-false (ltb b 64))
-
--- the bit of a row and a set, as the image has it
-image-bit : (g : Geometry) → valid g ≡ true → (es : Array) → Sound g es → (r s : ℕ) → r < rows g → s < sets g
-    → cell g (image g es) r (s / 64) (s % 64) ≡ covered g (entryAt es) r s
-image-bit g ok es sound r s hr hs =
-    image-cell g (facts g ok) es sound r (s / 64) (s % 64) hr (word-lt g (facts g ok) s hs)
-    ∙ rw (lt-ltb (s % 64) 64 (omega arith)) (ap (covered g (entryAt es) r) (omega arith))
+    image-cell g (facts g ok) (arrayCover g es) r j b hr hj ∙ rw (uncovered g (facts g ok) es sound r (64 * j + b) past) (and-false (ltb b 64))
 
 -- ---- kinds 0 and 2
 
@@ -77,10 +71,10 @@ module _ (g : Geometry) (ok : valid g ≡ true) (kind : eqb (g .kind) cascaded �
 
   -- "the bit of row p and set s is 1 exactly when some address in set s holds p"
   pub image-pattern : (es : Array) → Sound g es → (p s : ℕ) → p < patterns g → s < sets g
-      → cell g (image g es) p (s / 64) (s % 64) ≡ any (setLength g s) (λ o. holds (entryAt es (addressOf g s o)) p)
+      → cell g (image g (arrayCover g es)) p (s / 64) (s % 64) ≡ any (setLength g s) (λ o. holds (entryAt es (addressOf g s o)) p)
   unfolding covered holds
   image-pattern es sound p s hp hs =
-      image-bit g ok es sound p s inside hs
+      image-bit g (facts g ok) (arrayCover g es) p s inside hs
       ∙ any-ext (setLength g s) _ _ (λ o l. covers-pattern (entryAt es (addressOf g s o)) (sound .fits (addressOf g s o)) p)
     where
       inside : p < rows g
@@ -92,7 +86,7 @@ module _ (g : Geometry) (ok : valid g ≡ true) (kind : eqb (g .kind) cascaded �
       every .bits r j b hj
       ∙ rw (covers-pattern e fits r, covers-pattern (storeEntry g t a) (word-fits g (storeWord t a)) r, others)
     where
-      others : othersCover g t a r ≡ othersHold g t a r
+      others : othersCover g (storeCover g t) a r ≡ othersHold g t a r
       others =
           any-ext (setLength g (setOf g a)) _ _
           (λ o l. ap (λ x. not (eqb (addressOf g (setOf g a) o) a) && x) (covers-pattern (storeEntry g t (addressOf g (setOf g a) o)) (word-fits g (storeWord t (addressOf g (setOf g a) o))) r))
@@ -117,10 +111,10 @@ module _ (g : Geometry) (ok : valid g ≡ true) (kind : eqb (g .kind) cascaded �
 
   -- "of row p_k in slice k": 1 exactly when some address in set s "holds a pattern whose slice k is p_k"
   pub image-stage : (es : Array) → Sound g es → (k x s : ℕ) → k < stages g → x < 2 ^ stageWidth g k → s < sets g
-      → cell g (image g es) (512 * k + x) (s / 64) (s % 64) ≡ any (setLength g s) (λ o. holdsStage g k x (entryAt es (addressOf g s o)))
+      → cell g (image g (arrayCover g es)) (512 * k + x) (s / 64) (s % 64) ≡ any (setLength g s) (λ o. holdsStage g k x (entryAt es (addressOf g s o)))
   unfolding covered
   image-stage es sound k x s hk hx hs =
-      image-bit g ok es sound (512 * k + x) s (row-lt g (facts g ok) k x hk hx) hs
+      image-bit g (facts g ok) (arrayCover g es) (512 * k + x) s (row-lt g (facts g ok) k x hk hx) hs
       ∙ any-ext (setLength g s) _ _ (λ o l. covers-stage (entryAt es (addressOf g s o)) k x hk hx)
 
   stage-bits : (t u : Tables) (a : ℕ) (e : Entry) → EveryBit g t u a e → StageBits g t u a e
@@ -129,7 +123,7 @@ module _ (g : Geometry) (ok : valid g ≡ true) (kind : eqb (g .kind) cascaded �
       every .bits (512 * k + x) j b hj
       ∙ rw (covers-stage e k x hk hx, covers-stage (storeEntry g t a) k x hk hx, alone, and-true (holdsStage g k x (storeEntry g t a)))
     where
-      alone : othersCover g t a (512 * k + x) ≡ false
+      alone : othersCover g (storeCover g t) a (512 * k + x) ≡ false
       alone = any-false (setLength g (setOf g a)) _ (λ o l. itself o l)
         where
           itself : (o : ℕ) → o < setLength g (setOf g a)

@@ -1,10 +1,10 @@
 -- The searches on any tables: which sets a key indicates, and what both matches answer in terms of them.
-use Prim.Native.Nat.{ℕ, _+_, _-_, _*_, _/_, _%_, _^_, _<_, _≤_}
+use Prim.Native.Nat.{ℕ, _+_, _*_, _/_, _%_, _^_, _<_, _≤_}
 use mathlib.Core.Path.{_≡_, refl, sym, ap, _∙_}
 use mathlib.Core.Logic.{_↔_}
 use mathlib.Core.Bool.{Bool, true, false, not, _&&_, _||_, or-true, and-eq-true-iff, false≢true}
 use mathlib.Core.List.{List, [], _∷_, foldr}
-use native.Mathlib.Nat.{le-trans, lt-of-le-of-lt, le-refl, le-add-right, add-zero}
+use native.Mathlib.Nat.{le-trans, lt-of-le-of-lt, le-refl}
 use native.Mathlib.Omega.{arith}
 use lib.Dec.{eqb}
 use lib.Bits.{bitAnd, and-le-r}
@@ -13,8 +13,8 @@ use borrow.Author.Tests.{ltb-true, lt-ltb, eqb-true, eq-eqb}
 use Rattle.words.specs.Rules.{count, member, First, Nowhere}
 use Rattle.words.specs.Bits.{bit, rowMask, totalOnes}
 use Rattle.words.specs.Seek.{Sought, found, missed}
-use Rattle.words.proofs.Rules.{any-witness, any-true, refuted, count-none, count-add, member-tabulate, first-unique}
-use Rattle.words.proofs.Bits.{bit-and, bit-mask, mask-lt, ones-of-rule}
+use Rattle.words.proofs.Rules.{any-witness, any-true, refuted, member-tabulate, first-unique}
+use Rattle.words.proofs.Bits.{bit-and, bit-mask, mask-lt, ones-below}
 use Rattle.words.proofs.Seek.{seek-found, seek-missed, row-word, row-first, row-nowhere}
 use Rattle.geometry.specs.declared.Geometry.{Geometry}
 use Rattle.geometry.specs.Valid.{valid, segmented}
@@ -24,7 +24,8 @@ use Rattle.geometry.proofs.Facts.{Facts, facts}
 use Rattle.geometry.proofs.Places.{sets-most, matches-most}
 use Rattle.reference.specs.Calls.{firstMatch, allMatch, none, refused, matched}
 use Rattle.machines.specs.Refusals.{_given-when_, firstRefusal}
-use Rattle.reference.specs.Tables.{Tables, storeWord, cell}
+use Rattle.cover.specs.Image.{cell}
+use Rattle.reference.specs.Tables.{Tables, storeWord}
 use Rattle.reference.specs.Search.{joined, indicated, seekWord, seekEntry, lowestSet, Found, hit, nothing, falseSet, isFalse, inSet, firstFound, anyIsFalse, answerOf, taken, takenWords}
 use Rattle.reference.specs.Steps.{badMatches, ownRefusals, refusals, accepted, outcome, step}
 use Rattle.reference.specs.Statements.{stores, NoEqual, FirstOnAny, no-set, set-alone, equal-entry, AllOnAny, all-taken}
@@ -219,12 +220,7 @@ taken-past g t key a past = refuted (taken g t key a) (λ h. omega (arith, taken
 -- the ones in the word of those taken are as many as they are
 pub taken-counted : (g : Geometry) → Facts g → (t : Tables) (key : ℕ) → totalOnes (takenWords g t key) ≡ count (g .depth) (taken g t key)
 unfolding takenWords
-taken-counted g f t key =
-    let whole : g .depth + (64 * matchWords g - g .depth) ≡ 64 * matchWords g = omega (arith, matches-most g f) in
-    ones-of-rule (matchWords g) (taken g t key)
-    ∙ ap (λ n. count n (taken g t key)) (sym whole)
-    ∙ count-add (g .depth) (64 * matchWords g - g .depth) (taken g t key)
-    ∙ rw (count-none (64 * matchWords g - g .depth) _ (λ i l. taken-past g t key (g .depth + i) (le-add-right (g .depth) i))) (add-zero _)
+taken-counted g f t key = ones-below (matchWords g) (g .depth) (taken g t key) (matches-most g f) (taken-past g t key)
 
 -- ---- the two calls
 

@@ -1,14 +1,14 @@
 -- The plain array: D entries and the six calls on them. It knows the geometry, and nothing of tables, rows or searches.
-use Prim.Native.Nat.{ℕ, suc, _+_, _*_, _/_}
+use Prim.Native.Nat.{ℕ, _+_, _*_, _/_}
 use mathlib.Core.Path.{_≡_}
-use mathlib.Core.Bool.{true, false, cond, not}
+use mathlib.Core.Bool.{Bool, cond, not}
 use mathlib.Core.List.{List, [], _∷_}
 use mathlib.Core.Option as Option
 use mathlib.Core.Option.{Option}
 use lib.Dec.{eqb}
 use lib.ListN.{length, getD, set, replicate}
-use Rattle.words.specs.Rules.{tabulate}
-use Rattle.words.specs.Bits.{word}
+use Rattle.words.specs.Rules.{count, lowest}
+use Rattle.words.specs.Bits.{bitWords}
 use Rattle.geometry.specs.declared.Geometry.{Geometry}
 use Rattle.geometry.specs.Valid.{segmented}
 use Rattle.geometry.specs.Sizes.{rowWords, matchWords, offsetOf}
@@ -32,24 +32,15 @@ pub record Sound (g : Geometry) (es : Array) : Type 0 where
   pub long : length es ≡ g .depth
   pub fits : (a : ℕ) → Fits g (entryAt es a)
 
--- The lowest address whose entry is the key, if any; the first entry of the list has address a.
-unfoldable pub lowest : (key a : ℕ) → Array → Option ℕ
-lowest key a [] = Option.none
-lowest key a (e ∷ es) = elim (holds e key) [ true ↦ Option.some a | false ↦ lowest key (suc a) es ]
+-- Whether the entry of an address is the key.
+abbrev pub holding : Array → (key a : ℕ) → Bool
+holding es key a = holds (entryAt es a) key
 
 -- "After a hit at a, w = a / (64 × W) rounded down, plus 1; c = a mod W + 1 in kind 2 and 0 in the others.
 -- After none, w = R and c = 0."
 unfoldable pub counted : Geometry → Option ℕ → Answer
 counted g (Option.some a) = at a (a / (64 * g .«set_width») + 1) (cond (eqb (g .kind) segmented) (offsetOf g a + 1) 0)
 counted g Option.none = none (rowWords g) 0
-
--- "bit a mod 64 of word a / 64 set exactly when entry a is p and all other bits 0"
-unfoldable pub matchesOf : Geometry → Array → ℕ → List ℕ
-matchesOf g es key = tabulate (matchWords g) (λ j. word 64 (λ b. holds (entryAt es (64 * j + b)) key))
-
-unfoldable pub hits : ℕ → Array → ℕ
-hits key [] = 0
-hits key (e ∷ es) = cond (holds e key) 1 0 + hits key es
 
 -- "It refuses with 3, 4 and, for an all-match word of wrong length, 2, in the order below."
 unfoldable pub arrayRefusals : Geometry → Call ℕ → List RefusalRow
@@ -64,14 +55,18 @@ pub record ArrayOutcome : Type 0 where
   pub answer : Answer
   pub array : Array
 
--- The calls, where nothing stops them.
+-- The calls, where nothing stops them. First-match finds the lowest address that holds the key; all-match gives "bit a mod 64 of
+-- word a / 64 set exactly when entry a is p and all other bits 0", and how many addresses hold it.
 unfoldable pub arrayAccepted : Geometry → Array → Call ℕ → ArrayOutcome
 arrayAccepted g es clear = record { answer = cleared; array = emptied g }
 arrayAccepted g es (write a p) = record { answer = held (entryAt es a); array = set es a (pattern p) }
 arrayAccepted g es (erase a) = record { answer = held (entryAt es a); array = set es a empty }
 arrayAccepted g es (read a) = record { answer = held (entryAt es a); array = es }
-arrayAccepted g es (firstMatch key) = record { answer = counted g (lowest key 0 es); array = es }
-arrayAccepted g es (allMatch key len) = record { answer = matched (matchesOf g es key) (hits key es); array = es }
+arrayAccepted g es (firstMatch key) = record { answer = counted g (lowest (g .depth) (holding es key)); array = es }
+arrayAccepted g es (allMatch key len) = record {
+  answer = matched (bitWords (matchWords g) (holding es key)) (count (g .depth) (holding es key));
+  array = es;
+}
 
 -- A refusal "keeps its state".
 unfoldable pub arrayOutcome : Geometry → Array → Call ℕ → Option ℕ → ArrayOutcome

@@ -6,8 +6,8 @@ use lib.Dec.{eqb, ltb}
 use lib.Bits.{bitAnd}
 use lib.Count.{trailingZeros}
 use lib.ListN.{getD}
-use Rattle.words.specs.Rules.{any, tabulate}
-use Rattle.words.specs.Bits.{bit, rowMask, word}
+use Rattle.words.specs.Rules.{any}
+use Rattle.words.specs.Bits.{bit, rowMask, bitWords}
 use Rattle.words.specs.Seek.{Sought, found, missed, seek}
 use Rattle.geometry.specs.declared.Geometry.{Geometry}
 use Rattle.geometry.specs.Valid.{segmented}
@@ -76,4 +76,4 @@ unfoldable pub taken : Geometry → Tables → (key a : ℕ) → Bool
 taken g t key a = indicated g t key (setOf g a) && chosen g t key a
 
 unfoldable pub takenWords : Geometry → Tables → (key : ℕ) → List ℕ
-takenWords g t key = tabulate (matchWords g) (λ j. word 64 (λ b. taken g t key (64 * j + b)))
+takenWords g t key = bitWords (matchWords g) (taken g t key)

@@ -5,8 +5,8 @@ use mathlib.Core.Bool.{Bool, true, false, cond, not, _&&_}
 use mathlib.Core.List.{map, zipWith}
 use lib.Dec.{eqb}
 use lib.ListN.{length}
-use Rattle.words.specs.Rules.{any, count, tabulate, First, Nowhere}
-use Rattle.words.specs.Bits.{word}
+use Rattle.words.specs.Rules.{any, count, First, Nowhere}
+use Rattle.words.specs.Bits.{bitWords}
 use Rattle.geometry.specs.declared.Geometry.{Geometry}
 use Rattle.geometry.specs.Valid.{segmented, valid}
 use Rattle.geometry.specs.Sizes.{sets, rowWords, matchWords, setOf, offsetOf, addressOf, setLength}
@@ -14,9 +14,10 @@ use Rattle.geometry.specs.Stages.{stages, stageWidth, stage, rows, indicatorWor
 use Rattle.reference.specs.Entry.{Entry, empty, pattern, wordOf, holds}
 use Rattle.reference.specs.Calls.{Answer, refused, at, none, matched, shape, lent, matchesAfter}
 use Rattle.reference.specs.Array.{Array, Sound}
-use Rattle.reference.specs.Tables.{Tables, storeWord, storeEntry, cell, belongs}
-use Rattle.reference.specs.Image.{covers, covered, tablesOf}
-use Rattle.reference.specs.Update.{othersCover}
+use Rattle.cover.specs.Image.{cell, belongs, covered}
+use Rattle.cover.specs.Change.{othersCover}
+use Rattle.reference.specs.Tables.{Tables, storeWord, storeEntry}
+use Rattle.reference.specs.Image.{covers, storeCover, tablesOf}
 use Rattle.reference.specs.Search.{indicated, taken}
 use Rattle.reference.specs.Steps.{Outcome}
 use Rattle.reference.specs.History.{History, run, after, arrayAnswers, arrayAfter}
@@ -61,7 +62,7 @@ pub data FirstOnAny (g : Geometry) (t : Tables) (key : ℕ) (answer : Answer) : 
 -- that have the key.
 pub data AllOnAny (g : Geometry) (t : Tables) (key : ℕ) (answer : Answer) : Type 0 where
   all-taken : ((s : ℕ) → s < sets g → indicated g t key s ≡ true → NoEqual g t key s → ⊥)
-      → answer ≡ matched (tabulate (matchWords g) (λ j. word 64 (λ b. taken g t key (64 * j + b)))) (count (g .depth) (taken g t key))
+      → answer ≡ matched (bitWords (matchWords g) (taken g t key)) (count (g .depth) (taken g t key))
       → AllOnAny g t key answer
   no-equal : (s : ℕ) → s < sets g → indicated g t key s ≡ true → NoEqual g t key s → answer ≡ refused 6 → AllOnAny g t key answer
 
@@ -72,7 +73,7 @@ pub data AllOnAny (g : Geometry) (t : Tables) (key : ℕ) (answer : Answer) : Ty
 pub record Mirrors (g : Geometry) (t : Tables) : Type 0 where
   pub entries : length (t .store) ≡ g .depth
   pub words : length (t .indicators) ≡ indicatorWords g
-  pub bits : (r s : ℕ) → r < rows g → s < sets g → cell g (t .indicators) r (s / 64) (s % 64) ≡ covered g (storeEntry g t) r s
+  pub bits : (r s : ℕ) → r < rows g → s < sets g → cell g (t .indicators) r (s / 64) (s % 64) ≡ covered g (storeCover g t) r s
 
 -- A first-match answers with the lowest address that has the key, with document 01's w and c; or none, and no address
 -- has it.
@@ -85,7 +86,7 @@ pub data FirstIs (g : Geometry) (t : Tables) (key : ℕ) (answer : Answer) : Typ
 -- An all-match answers with the word in which the bit of each address says whether it has the key, and with their number.
 abbrev pub AllAre : Geometry → Tables → (key : ℕ) → Answer → Type 0
 AllAre g t key answer =
-    answer ≡ matched (tabulate (matchWords g) (λ j. word 64 (λ b. stores t key (64 * j + b)))) (count (g .depth) (stores t key))
+    answer ≡ matched (bitWords (matchWords g) (stores t key)) (count (g .depth) (stores t key))
 
 -- ---- demand 2, on any tables: what becomes of each bit and entry when e comes to address a
 
@@ -95,7 +96,7 @@ pub record EveryBit (g : Geometry) (t u : Tables) (a : ℕ) (e : Entry) : Type 0
   pub bits : (r j b : ℕ) → j < rowWords g
       → cell g (u .indicators) r j b
       ≡ cond (belongs (setOf g a) j b)
-      (cond (covers g e r) true (cond (covers g (storeEntry g t a) r && not (othersCover g t a r)) false (cell g (t .indicators) r j b)))
+      (cond (covers g e r) true (cond (covers g (storeEntry g t a) r && not (othersCover g (storeCover g t) a r)) false (cell g (t .indicators) r j b)))
       (cell g (t .indicators) r j b)
   pub words : length (u .indicators) ≡ length (t .indicators)
   pub entry : storeWord u a ≡ wordOf e

@@ -22,9 +22,11 @@ use Rattle.geometry.proofs.Places.{set-lt, address-lt, word-lt}
 use Rattle.geometry.proofs.Stages.{rows-drop}
 use Rattle.reference.specs.Entry.{Entry, empty, pattern, emptyWord, wordOf}
 use Rattle.reference.specs.Calls.{refused, held}
-use Rattle.reference.specs.Tables.{Tables, storeWord, storeEntry}
-use Rattle.reference.specs.Image.{entryRows, covers}
-use Rattle.reference.specs.Update.{change, othersCover, isReleased, released, replaced}
+use Rattle.reference.specs.Tables.{storeWord, storeEntry}
+use Rattle.cover.specs.Image.{Cover}
+use Rattle.cover.specs.Change.{change, othersCover, isReleased, moved}
+use Rattle.reference.specs.Image.{entryRows, covers, storeCover}
+use Rattle.reference.specs.Update.{replaced}
 use Rattle.reference.specs.Steps.{badEntry}
 use Rattle.calls.specs.Answers.{tables}
 use Rattle.calls.specs.Passed.{Sized, Lent}
@@ -74,17 +76,17 @@ module _ {f : ℕ → ℕ → ℕ} {g : Geometry} {s n : ℕ} {rs all ind : List
   change-end e = rw e at (h .makes)
 
 -- Of some rows those that are released in the set of a when its next entry is e.
-abbrev pub givenUp : Geometry → Tables → (a : ℕ) → Entry → (rows : List ℕ) → List ℕ
-givenUp g t a e = keep (isReleased g t a (entryRows g e))
+abbrev pub givenUp : Geometry → Cover → (a : ℕ) → Entry → (rows : List ℕ) → List ℕ
+givenUp g cover a e = keep (isReleased g cover a (entryRows g e))
 
 -- by the first row, r, where `next` is whether e covers it, and `other` whether another address does
-module _ (g : Geometry) (t : Tables) (a : ℕ) (e : Entry) {rs rest : List ℕ} {r : ℕ} {next : Bool} (cut : rs ≡ r ∷ rest) (found : next ≡ covers g e r) where
-  pub kept-by-next : not next ≡ false → givenUp g t a e rs ≡ givenUp g t a e rest
+module _ (g : Geometry) (cover : Cover) (a : ℕ) (e : Entry) {rs rest : List ℕ} {r : ℕ} {next : Bool} (cut : rs ≡ r ∷ rest) (found : next ≡ covers g e r) where
+  pub kept-by-next : not next ≡ false → givenUp g cover a e rs ≡ givenUp g cover a e rest
   unfolding keep covers
   kept-by-next n = rw (cut, ← found, n)
 
-  pub others-decide : {other b : Bool} → not next ≡ true → other ≡ othersCover g t a r → not other ≡ b
-      → givenUp g t a e rs ≡ cond b (r ∷ givenUp g t a e rest) (givenUp g t a e rest)
+  pub others-decide : {other b : Bool} → not next ≡ true → other ≡ othersCover g cover a r → not other ≡ b
+      → givenUp g cover a e rs ≡ cond b (r ∷ givenUp g cover a e rest) (givenUp g cover a e rest)
   unfolding keep covers
   others-decide n others m = rw (cut, ← found, n, ← others, m)
 
@@ -138,11 +140,11 @@ module _ {g : Geometry} {store : List ℕ} {a o b : ℕ} (row : ℕ) (h : Beside
   covers-other {w = w} z n ew ex er = rw (← h .is, ← found, n, er, ex, entry-held z store [] b w ew)
 
 module _ (g : Geometry) (store : List ℕ) (a row o : ℕ) where
-  pub others-found : o < setLength g (setOf g a) → otherCovers g store a row o ≡ true → true ≡ othersCover g (tables store []) a row
+  pub others-found : o < setLength g (setOf g a) → otherCovers g store a row o ≡ true → true ≡ othersCover g (storeCover g (tables store [])) a row
   unfolding othersCover
   others-found h e = sym (any-true (setLength g (setOf g a)) (otherCovers g store a row) o h e)
 
-  pub others-none : setLength g (setOf g a) ≤ o → Nowhere o (otherCovers g store a row) → false ≡ othersCover g (tables store []) a row
+  pub others-none : setLength g (setOf g a) ≤ o → Nowhere o (otherCovers g store a row) → false ≡ othersCover g (storeCover g (tables store [])) a row
   unfolding othersCover
   others-none past h = sym (any-false (setLength g (setOf g a)) (otherCovers g store a row) (λ i l. h i (omega arith)))
 
@@ -162,7 +164,7 @@ module _ {g : Geometry} {sizes : Sizes} (z : Sized g sizes) (store ind : List �
   -- `after` the store
   pub replace-done : {x : Entry} {s v : ℕ} {i₁ i₂ after : List ℕ} → not sound ≡ false → x ≡ cond (ltb w (sizes .patterns)) (pattern w) empty
       → s ≡ setOf g a → i₁ ≡ change setBit g s (entryRows g e) ind
-      → i₂ ≡ change clearBit g (setOf g a) (givenUp g (tables store []) a e (entryRows g x)) i₁ → v ≡ wordOf e → after ≡ set store a v
+      → i₂ ≡ change clearBit g (setOf g a) (givenUp g (storeCover g (tables store [])) a e (entryRows g x)) i₁ → v ≡ wordOf e → after ≡ set store a v
       → record { answer = held x; tables = tables after i₂; matches = [] } ≡ replacing g (tables store ind) a e
-  unfolding replacing replaced released othersCover
+  unfolding replacing replaced moved othersCover
   replace-done n ex es e₁ e₂ ev e₃ = rw (bad n, e₃, e₂, e₁, ex, entry-held z store ind a w is, es, ev)

@@ -16,8 +16,8 @@ ghost use lib.ListN.{length};
 ghost use Rattle.words.specs.Rules.{keep};
 ghost use Rattle.words.specs.Bits.{setBit, clearBit};
 ghost use Rattle.geometry.specs.Sizes.{sets, setOf};
-ghost use Rattle.reference.specs.Image.{entryRows, covers};
-ghost use Rattle.reference.specs.Update.{change, othersCover, isReleased};
+ghost use Rattle.cover.specs.Change.{change, othersCover, isReleased};
+ghost use Rattle.reference.specs.Image.{entryRows, covers, storeCover};
 ghost use Rattle.calls.specs.Answers.{entryFor, tables, left};
 ghost use Rattle.calls.specs.Passed.{Sized, Lent};
 ghost use Rattle.update.specs.Replacing.{replacing};
@@ -58,7 +58,7 @@ fn is_covered_by(g: Geometry, sizes: Sizes, entry: Entry, row: usize) -> bool
 // Whether another address of the set has an entry that covers the row.
 fn others_cover(g: Geometry, sizes: Sizes, store: &[u32], address: Address, row: usize) -> bool
     requires { ⌜ Sized g sizes × (length (now store) ≡ g .depth) × (address .0 < g .depth) ⌝ }
-    ensures { λ r. ⌜ r ≡ othersCover g (tables (now (store .entry)) []) (address .0) row ⌝ }
+    ensures { λ r. ⌜ r ≡ othersCover g (storeCover g (tables (now (store .entry)) [])) (address .0) row ⌝ }
 {
     let set = address.set(g);
     let length = set.length(g);
@@ -87,7 +87,7 @@ fn clear_released(
     next: Entry,
 )
     requires { ⌜ Lent g sizes (length (now store)) (length (now indicators)) × (address .0 < g .depth) ⌝ }
-    ensures { λ r. ⌜ now (indicators .exit) ≡ change clearBit g (setOf g (address .0)) (keep (isReleased g (tables (now (store .entry)) []) (address .0) (entryRows g (entryFor next))) (entryRows g (entryFor previous))) (now (indicators .entry)) ⌝ }
+    ensures { λ r. ⌜ now (indicators .exit) ≡ change clearBit g (setOf g (address .0)) (keep (isReleased g (storeCover g (tables (now (store .entry)) [])) (address .0) (entryRows g (entryFor next))) (entryRows g (entryFor previous))) (now (indicators .entry)) ⌝ }
 {
     let Entry::Pattern(pattern) = previous else {
         return;

@@ -1,6 +1,6 @@
 -- Laws of single bits, for any width.
 use Prim.Native.Nat.{ℕ, zero, suc, _+_, _-_, _*_, _/_, _%_, _^_, _<_, _≤_, min, suc-le-suc}
-use native.Mathlib.Nat.{add-comm, le-add-right, div-div-eq-div-mul, div-eq-of-lt, div-one, lt-of-lt-of-le, le-of-suc-le-suc, min-le-left, mod-lt, mul-comm, pow-suc, zero-div, zero-lt-suc}
+use native.Mathlib.Nat.{add-comm, add-zero, le-add-right, div-div-eq-div-mul, div-eq-of-lt, div-one, lt-of-lt-of-le, le-of-suc-le-suc, min-le-left, mod-lt, mul-comm, pow-suc, zero-div, zero-lt-suc}
 use native.Mathlib.Omega.{arith}
 use mathlib.Core.Path.{_≡_, refl, sym, ap, ap₂, _∙_}
 use mathlib.Core.Bool.{Bool, true, false, cond, not, _&&_, _||_, and-true}
@@ -13,8 +13,8 @@ use lib.ListN.{length, getD, set, length-set}
 use lib.Seq.{getD-set-same, getD-set-other}
 use borrow.Author.Tests.{ltb-true, ltb-false, lt-ltb, le-ltb, eqb-true, eqb-false}
 use Rattle.words.specs.Rules.{count, tabulate, First}
-use Rattle.words.specs.Bits.{bit, setBit, clearBit, changeBit, rowMask, word, totalOnes}
-use Rattle.words.proofs.Rules.{count-add, count-ext}
+use Rattle.words.specs.Bits.{bit, setBit, clearBit, changeBit, rowMask, word, bitWords, totalOnes}
+use Rattle.words.proofs.Rules.{count-add, count-ext, count-none, length-tabulate, tabulate-ext}
 
 -- a digit is 0 or 1
 two : (P : ℕ → Type 0) → P 0 → P 1 → (n : ℕ) → P (n % 2)
@@ -226,9 +226,19 @@ trailing-lowest (suc n) a h p = go (a % 2) refl (λ q. trailing-lowest n (a / 2)
         let one : a % 2 ≡ 1 = omega arith in
         record { within = zero-lt-suc n; here = rw (bit-low, one); none-before = λ j l. absurd (omega arith) }
 
--- words that hold a rule over all their positions have as many ones as it holds often
-pub ones-of-rule : (n : ℕ) (r : ℕ → Bool) → totalOnes (tabulate n (λ j. word 64 (λ b. r (64 * j + b)))) ≡ count (64 * n) r
-unfolding totalOnes tabulate
+-- ---- words that have a bit for each place
+
+pub length-bitWords : (n : ℕ) (r : ℕ → Bool) → length (bitWords n r) ≡ n
+unfolding bitWords
+length-bitWords n r = length-tabulate n _
+
+pub bitWords-ext : (n : ℕ) (r s : ℕ → Bool) → ((i : ℕ) → r i ≡ s i) → bitWords n r ≡ bitWords n s
+unfolding bitWords
+bitWords-ext n r s h = tabulate-ext n _ _ (λ j l. word-ext 64 _ _ (λ b m. h (64 * j + b)))
+
+-- they have as many ones as the rule holds often
+ones-of-rule : (n : ℕ) (r : ℕ → Bool) → totalOnes (bitWords n r) ≡ count (64 * n) r
+unfolding bitWords totalOnes tabulate
 ones-of-rule zero r = unfold count in refl
 ones-of-rule (suc n) r =
     ap₂ (λ (x y : ℕ). x + y) (count-ext 64 (bit (word 64 first)) r (λ i l. bit-word 64 first i l ∙ ap r (omega arith)))
@@ -240,3 +250,10 @@ ones-of-rule (suc n) r =
 
     shift : (j b : ℕ) → 64 * suc j + b ≡ 64 + (64 * j + b)
     shift j b = omega arith
+
+-- where it holds of no place from d on, those below d count
+pub ones-below : (n d : ℕ) (r : ℕ → Bool) → d ≤ 64 * n → ((i : ℕ) → d ≤ i → r i ≡ false) → totalOnes (bitWords n r) ≡ count d r
+ones-below n d r most past =
+    let whole : d + (64 * n - d) ≡ 64 * n = omega arith in
+    ones-of-rule n r ∙ ap (λ k. count k r) (sym whole) ∙ count-add d (64 * n - d) r
+    ∙ rw (count-none (64 * n - d) _ (λ i l. past (d + i) (omega arith))) (add-zero _)

@@ -4,6 +4,7 @@ use mathlib.Core.Logic.{_⊎_, inl, inr}
 use mathlib.Core.Path.{_≡_, refl, sym, ap, _∙_}
 use mathlib.Core.Bool.{Bool, true, false, cond, not, _&&_, _||_, false≢true, or-true, or-false, or-assoc, and-false, and-eq-true-iff}
 use mathlib.Core.List.{List, [], _∷_}
+use mathlib.Core.Option.{Option, none, some}
 use native.Mathlib.Numerals.{one-add}
 use native.Mathlib.Nat.{zero-add, add-zero, add-suc, add-assoc, le-of-suc-le-suc, eq-or-lt-of-le, mul-comm, div-add-mod}
 use native.Mathlib.Decide.{decLt}
@@ -13,7 +14,7 @@ use lib.Arith.{digits-div, digits-mod}
 use lib.ListN.{length, getD}
 use lib.Seq.{ext-getD}
 use borrow.Author.Tests.{eqb-true, eq-eqb, ltb-true, ltb-false}
-use Rattle.words.specs.Rules.{any, count, member, keep, tabulate, First, Nowhere}
+use Rattle.words.specs.Rules.{any, count, lowest, member, keep, tabulate, First, Nowhere}
 
 -- two tests that follow from each other are one
 pub both-ways : (a b : Bool) → (a ≡ true → b ≡ true) → (b ≡ true → a ≡ true) → a ≡ b
@@ -180,3 +181,26 @@ first-unique n r i j a b = go (decLt i j) (decLt j i)
     go (yes l) d = cc (b .none-before i l)
     go (no k) (yes l) = cc (a .none-before j l)
     go (no k) (no l) = omega arith
+
+-- what the search of a rule gives
+pub data LowestIs (n : ℕ) (r : ℕ → Bool) (result : Option ℕ) : Type 0 where
+  at-first : (i : ℕ) → result ≡ some i → First n r i → LowestIs n r result
+  at-none : result ≡ none → Nowhere n r → LowestIs n r result
+
+pub lowest-is : (n : ℕ) (r : ℕ → Bool) → LowestIs n r (lowest n r)
+unfolding lowest
+lowest-is zero r = at-none refl (λ j l. absurd (omega arith))
+lowest-is (suc n) r = go (lowest-is n r)
+  where
+    last : (b : Bool) → r n ≡ b → Nowhere n r → LowestIs (suc n) r (cond b (some n) none)
+    last true h before = at-first n refl (record { within = omega arith; here = h; none-before = before })
+    last false h before = at-none refl (λ j l. go (eq-or-lt-of-le (le-of-suc-le-suc l)))
+      where
+        go : {j : ℕ} → (j ≡ n) ⊎ (j < n) → r j ≡ false
+        go (inl is) = rw is h
+        go (inr m) = before _ m
+
+    go : LowestIs n r (lowest n r) → LowestIs (suc n) r (lowest (suc n) r)
+    go (at-first i e first) =
+        rw e (at-first i refl (record { within = omega (arith, first .within); here = first .here; none-before = first .none-before }))
+    go (at-none e before) = rw e (last (r n) refl before)

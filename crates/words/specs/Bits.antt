@@ -5,7 +5,7 @@ use mathlib.Core.List.{List, [], _∷_}
 use lib.Dec.{eqb}
 use lib.Bits.{bitOr, bitXor}
 use lib.ListN.{getD, set}
-use Rattle.words.specs.Rules.{count}
+use Rattle.words.specs.Rules.{count, tabulate}
 
 -- Bit i of n; bit 0 is worth 1.
 unfoldable pub bit : ℕ → ℕ → Bool
@@ -31,6 +31,10 @@ rowMask n j = 2 ^ min 64 (n - 64 * j) - 1
 unfoldable pub word : ℕ → (ℕ → Bool) → ℕ
 word zero r = 0
 word (suc n) r = cond (r 0) 1 0 + 2 * word n (λ i. r (suc i))
+
+-- n words of 64 bits that have a bit for each place: bit b of word j is that of place 64 × j + b, and is 1 where r holds.
+unfoldable pub bitWords : ℕ → (ℕ → Bool) → List ℕ
+bitWords n r = tabulate n (λ j. word 64 (λ b. r (64 * j + b)))
 
 -- The ones in some words of 64 bits.
 unfoldable pub totalOnes : List ℕ → ℕ

@@ -1,8 +1,9 @@
--- Rules over numbers, ℕ → Bool: whether one holds below a bound, how often, and a list made by a rule.
+-- Rules over numbers, ℕ → Bool: whether one holds below a bound, how often and where first, and a list made by a rule.
 use Prim.Native.Nat.{ℕ, zero, suc, _+_, _<_}
 use mathlib.Core.Path.{_≡_}
 use mathlib.Core.Bool.{Bool, true, false, cond, _||_}
 use mathlib.Core.List.{List, [], _∷_}
+use mathlib.Core.Option.{Option, none, some}
 use lib.Dec.{eqb}
 
 -- Whether some i below n has r i.
@@ -14,6 +15,11 @@ any (suc n) r = any n r || r n
 unfoldable pub count : ℕ → (ℕ → Bool) → ℕ
 count zero r = 0
 count (suc n) r = count n r + cond (r n) 1 0
+
+-- The lowest i below n that has r, if any.
+unfoldable pub lowest : ℕ → (ℕ → Bool) → Option ℕ
+lowest zero r = none
+lowest (suc n) r = elim (lowest n r) [ some i ↦ some i | none ↦ cond (r n) (some n) none ]
 
 -- Whether x stands in a list.
 unfoldable pub member : ℕ → List ℕ → Bool

@@ -9,8 +9,8 @@ use borrow.Author.Needs.{needs}
 use Rattle.words.specs.Rules.{keep}
 use Rattle.words.specs.Bits.{clearBit}
 use Rattle.geometry.specs.Stages.{stages, rowsOf}
-use Rattle.reference.specs.Image.{entryRows}
-use Rattle.reference.specs.Update.{change}
+use Rattle.cover.specs.Change.{change}
+use Rattle.reference.specs.Image.{entryRows, storeCover}
 use Rattle.calls.specs.Answers.{entryFor, tables}
 use Rattle.geometry.proofs.Stages.{rows-over}
 use Rattle.update.proofs.RowsChanged.{rows-first, place-within, set-within, Left, change-first, change-none, change-end, givenUp, kept-by-next, others-decide, keep-end}
@@ -19,7 +19,7 @@ use Rattle.update.proofs.clear_released.Tie as tie
 
 abbrev Inv-loop : tie.InvT-loop
 Inv-loop g sizes store indicators₀ address next pattern set k₀ indicators k =
-    let released = givenUp g (tables store []) (address .0) (entryFor next) in
+    let released = givenUp g (storeCover g (tables store [])) (address .0) (entryFor next) in
     let all = change clearBit g (set .0) (released (rowsOf g pattern)) indicators₀ in
     (k ≤ stages g) × Left clearBit g (set .0) (length indicators₀) (released (drop k (rowsOf g pattern))) all indicators
 

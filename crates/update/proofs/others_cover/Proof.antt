@@ -59,9 +59,9 @@ returns c =
     let i = w .before .before in
     let a = i .before in
     let h = looked a in
-    let z = start (a .before .before .before) .pre .0 in
-    others-found _ _ _ _ _ (h .within)
-    (covers-other _ h (i .is .ensures) z (w .before .if2 .taken) (w .word .ensures) (e .entry-of .ensures) (c .before .is-covered-by .ensures)
+    let s = start (a .before .before .before) in
+    others-found _ (s .args .store .now) _ _ _ (h .within)
+    (covers-other _ h (i .is .ensures) (s .pre .0) (w .before .if2 .taken) (w .word .ensures) (e .entry-of .ensures) (c .before .is-covered-by .ensures)
     ∙ c .if3 .taken)
 
 next-requires : tie.Need-next-requires Inv-loop μ-loop
@@ -89,7 +89,7 @@ loop-again c =
 returns-2 : tie.Need-returns-2 Inv-loop μ-loop
 returns-2 c =
     let at = c .before .before in
-    others-none _ _ _ _ _ (rw (← in-set at .set .ensures) (tested-past (c .before .is-within .ensures) (measured at .length .ensures) (c .if1 .left))) (at .loop .inv)
+    others-none _ (start at .args .store .now) _ _ _ (rw (← in-set at .set .ensures) (tested-past (c .before .is-within .ensures) (measured at .length .ensures) (c .if1 .left))) (at .loop .inv)
 
 pub others-cover-spec : {M : Type 1} → statement M
 others-cover-spec =

@@ -16,8 +16,8 @@ use Rattle.geometry.specs.Sizes.{sets, rowWords}
 use Rattle.geometry.specs.Stages.{rows, indicatorWords}
 use Rattle.geometry.proofs.Facts.{Facts}
 use Rattle.geometry.proofs.Places.{word-lt, place-lt, place-same}
-use Rattle.reference.specs.Tables.{cell, belongs}
-use Rattle.reference.specs.Update.{change}
+use Rattle.cover.specs.Image.{cell, belongs}
+use Rattle.cover.specs.Change.{change}
 
 pub length-change : (f : ℕ → ℕ → ℕ) (g : Geometry) (s : ℕ) (rs ind : List ℕ) → length (change f g s rs ind) ≡ length ind
 unfolding change

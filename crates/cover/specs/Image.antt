@@ -1,0 +1,33 @@
+-- The image of a cover. Of an entry the indicators know the rows that it covers, and no more.
+use Prim.Native.Nat.{ℕ, _+_, _*_, _/_, _%_}
+use mathlib.Core.Bool.{Bool, _&&_}
+use mathlib.Core.List.{List}
+use lib.Dec.{eqb}
+use lib.ListN.{getD}
+use Rattle.words.specs.Rules.{any, tabulate}
+use Rattle.words.specs.Bits.{bit, word}
+use Rattle.geometry.specs.declared.Geometry.{Geometry}
+use Rattle.geometry.specs.Sizes.{rowWords, addressOf, setLength}
+use Rattle.geometry.specs.Stages.{indicatorWords}
+
+-- Whether the entry of an address covers a row.
+abbrev pub Cover : Type 0
+Cover = (address row : ℕ) → Bool
+
+-- Bit b of word j of a row. It belongs to set 64 × j + b.
+abbrev pub cell : Geometry → List ℕ → (row j b : ℕ) → Bool
+cell g ind r j b = bit (getD ind (rowWords g * r + j) 0) b
+
+-- Whether that bit belongs to the set.
+abbrev pub belongs : (set j b : ℕ) → Bool
+belongs s j b = eqb j (s / 64) && eqb b (s % 64)
+
+-- Whether some address of the set covers the row.
+unfoldable pub covered : Geometry → Cover → (row set : ℕ) → Bool
+covered g cover r s = any (setLength g s) (λ o. cover (addressOf g s o) r)
+
+-- Word j of row r is number R × r + j; bit b of it belongs to set 64 × j + b. Where past the last set no address covers
+-- anything, padding bits (document 01: spare bits) are 0.
+unfoldable pub image : Geometry → Cover → List ℕ
+image g cover =
+    tabulate (indicatorWords g) (λ m. word 64 (λ b. covered g cover (m / rowWords g) (64 * (m % rowWords g) + b)))

@@ -1,5 +1,5 @@
 -- The cases of document 01 hold: antt runs every row of the table on the steps and compares the answers. So do single calls
--- on damaged tables, of which every word that is left is compared.
+-- on damaged tables, of which every word that is left is compared, and the verdicts on whether tables mirror their store.
 use mathlib.Core.Path.{_≡_, refl}
 use mathlib.Core.List.{map}
 use lib.Count.{trailingZeros}
@@ -15,12 +15,13 @@ use Rattle.machines.specs.Refusals.{firstRefusal}
 use Rattle.machines.specs.Machine as machine
 use Rattle.reference.specs.Refusals.{badAddress, badPattern}
 use Rattle.reference.specs.Image.{entryRows, covers}
+use Rattle.cover.specs.Image.{covered}
 use Rattle.cover.specs.Change.{change, othersCover, moved}
 use Rattle.reference.specs.Update.{replaced}
 use Rattle.reference.specs.Search.{joined, indicated, seekWord, seekEntry, lowestSet, isFalse, inSet, firstFound, anyIsFalse, answerOf, taken, takenWords}
 use Rattle.reference.specs.Steps.{badLengths, badMatches, badEntry, ownRefusals, refusals, clearTables, accepted, outcome, step, Outcome}
 use Rattle.reference.specs.History.{run}
-use Rattle.reference.specs.Cases.{Case, cases, Trial, trials}
+use Rattle.reference.specs.Cases.{Case, cases, Trial, trials, isWrong, isMirror, Mirror, mirrors}
 
 pub cases-hold : map (λ (r : Case). map (λ (o : Outcome). o .answer) (run (r .geometry) (r .tables) (r .calls))) cases ≡ map (λ (r : Case). r .answers) cases
 unfolding trailingZeros any count member keep tabulate bit setBit clearBit changeBit rowMask word bitWords totalOnes seek valid patterns sets rowWords matchWords setLength stages stageWidth stage rowOf rowsOf rows indicatorWords wordOf entryOf firstRefusal badAddress badPattern entryRows covers change othersCover moved replaced joined indicated seekWord seekEntry lowestSet isFalse inSet firstFound anyIsFalse answerOf taken takenWords badLengths badMatches badEntry ownRefusals refusals clearTables accepted outcome step machine.run cases
@@ -29,3 +30,7 @@ cases-hold = refl
 pub trials-hold : map (λ (r : Trial). step (r .geometry) (r .tables) (r .call)) trials ≡ map (λ (r : Trial). r .leaves) trials
 unfolding trailingZeros any count member keep tabulate bit setBit clearBit changeBit rowMask word bitWords totalOnes seek valid patterns sets rowWords matchWords setLength stages stageWidth stage rowOf rowsOf rows indicatorWords wordOf entryOf firstRefusal badAddress badPattern entryRows covers change othersCover moved replaced joined indicated seekWord seekEntry lowestSet isFalse inSet firstFound anyIsFalse answerOf taken takenWords badLengths badMatches badEntry ownRefusals refusals clearTables accepted outcome step lent trials
 trials-hold = refl
+
+pub mirrors-hold : map (λ (r : Mirror). isMirror (r .geometry) (r .tables)) mirrors ≡ map (λ (r : Mirror). r .verdict) mirrors
+unfolding any member tabulate bit patterns sets rowWords setLength stages stageWidth stage rowOf rowsOf rows indicatorWords entryOf entryRows covers covered isWrong isMirror mirrors
+mirrors-hold = refl

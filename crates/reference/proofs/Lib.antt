@@ -12,4 +12,5 @@ pub mod Agreement
 pub mod History
 pub mod Paper
 pub mod Line
+pub mod Padding
 pub mod Cases

@@ -1,12 +1,19 @@
--- Document 01's cases P1 to P10 as rows of one table, and single calls on damaged tables as rows of another.
--- proofs/Cases.antt computes both.
-use Prim.Native.Nat.{ℕ}
+-- Document 01's cases P1 to P10 as rows of one table, single calls on damaged tables as rows of another, and tables that do or
+-- do not mirror their store as rows of a third. proofs/Cases.antt computes all three.
+use Prim.Native.Nat.{ℕ, _/_, _%_}
+use mathlib.Core.Bool.{Bool, true, false, cond, not, _&&_}
 use mathlib.Core.List.{List, [], _∷_}
-use lib.ListN.{set, replicate}
+use lib.Dec.{eqb}
+use lib.ListN.{length, set, replicate}
+use Rattle.words.specs.Rules.{any}
 use Rattle.geometry.specs.declared.Geometry.{Geometry}
+use Rattle.geometry.specs.Sizes.{sets}
+use Rattle.geometry.specs.Stages.{rows, indicatorWords}
+use Rattle.cover.specs.Image.{cell, covered}
 use Rattle.reference.specs.Entry.{empty, pattern}
 use Rattle.reference.specs.Calls.{Call, clear, write, erase, read, firstMatch, allMatch, Answer, refused, cleared, held, at, none, matched}
 use Rattle.reference.specs.Tables.{Tables}
+use Rattle.reference.specs.Image.{storeCover}
 use Rattle.reference.specs.Steps.{Outcome, clearTables}
 
 -- Calls in a row from some tables, and the answers they get.
@@ -149,6 +156,10 @@ trials =
     ∷ answers-with S (stored E E E E) (row1 16) (firstMatch 1) (none 1 0) []
     ∷ answers-with S (stored E E E E) (row1 16) (allMatch 1 (9 ∷ [])) (matched (0 ∷ []) 0) (0 ∷ [])
     ∷ writes S (stored E E E E) (row1 16) (write 0 1) (held empty) (stored 1 E E E) (row1 17)
+    -- padding bits in every row of tables that mirror their store: both matches answer as without
+    ∷ answers-with S (stored E 1 E 1) (16 ∷ 9223372036854775827 ∷ 32 ∷ 18446744073709551600 ∷ []) (firstMatch 1) (at 1 1 2) []
+    ∷ answers-with S (stored E 1 E 1) (16 ∷ 9223372036854775827 ∷ 32 ∷ 18446744073709551600 ∷ []) (allMatch 1 (9 ∷ [])) (matched (10 ∷ []) 2) (10 ∷ [])
+    ∷ answers-with S (stored E 1 E 1) (16 ∷ 9223372036854775827 ∷ 32 ∷ 18446744073709551600 ∷ []) (firstMatch 3) (none 1 0) []
     -- erase while a neighbour holds the pattern, and then not; a stale bit of another set stays
     ∷ writes S (stored E E 1 1) (row1 3) (erase 2) (held (pattern 1)) (stored E E E 1) (row1 3)
     ∷ writes S (stored E E E 1) (row1 3) (erase 3) (held (pattern 1)) (stored E E E E) (row1 1)
@@ -162,4 +173,48 @@ trials =
     ∷ answers-with deep (replicate 65 E) (0 ∷ 0 ∷ 2 ∷ 1 ∷ []) (allMatch 1 (9 ∷ 9 ∷ [])) (matched (2 ∷ 1 ∷ []) 2) (2 ∷ 1 ∷ [])
     -- kind 1: 514 is row 2 of stage 0 and row 1 of stage 1, which begins at word 512
     ∷ writes K (E ∷ E ∷ []) (replicate 514 0) (write 1 514) (held empty) (E ∷ 514 ∷ []) (set (set (replicate 514 0) 2 2) 513 2)
+    ∷ []
+
+-- ---- whether tables mirror their store, bit by bit
+
+-- Whether the bit of a row and a set is not what the store's entries would have.
+unfoldable pub isWrong : Geometry → Tables → (row set : ℕ) → Bool
+isWrong g t r s = cond (cell g (t .indicators) r (s / 64) (s % 64)) (not (covered g (storeCover g t) r s)) (covered g (storeCover g t) r s)
+
+unfoldable pub isMirror : Geometry → Tables → Bool
+isMirror g t =
+    (eqb (length (t .store)) (g .depth) && eqb (length (t .indicators)) (indicatorWords g))
+    && not (any (rows g) (λ r. any (sets g) (isWrong g t r)))
+
+pub record Mirror : Type 0 where
+  pub geometry : Geometry
+  pub tables : Tables
+  pub verdict : Bool
+
+abbrev pub mirror : Geometry → (store indicators : List ℕ) → Bool → Mirror
+mirror g st ind v = record { geometry = g; tables = record { store = st; indicators = ind }; verdict = v }
+
+abbrev pub deepStore : List ℕ
+deepStore = set (replicate 65 E) 64 1
+
+unfoldable pub mirrors : List Mirror
+mirrors =
+    -- S has four sets: bits 4 to 63 of each word are padding, and free
+    mirror S (stored E 1 E E) (row1 1) true
+    ∷ mirror S (stored E 1 E E) (16 ∷ 9223372036854775825 ∷ 18446744073709551600 ∷ 32 ∷ []) true
+    -- a stale bit, a missing one, one in another row, and one that padding hides from nobody
+    ∷ mirror S (stored E 1 E E) (row1 3) false
+    ∷ mirror S (stored E 1 E E) (row1 0) false
+    ∷ mirror S (stored E 1 E E) (1 ∷ 0 ∷ 0 ∷ 0 ∷ []) false
+    ∷ mirror S (stored E 1 E E) (row1 25) false
+    -- an entry that is no pattern covers nothing
+    ∷ mirror S (stored 4 1 E E) (row1 1) true
+    -- lengths
+    ∷ mirror S (E ∷ []) zeros false
+    ∷ mirror S (stored E E E E) (0 ∷ []) false
+    -- rows of two words: all of the first belongs to sets, of the second one bit
+    ∷ mirror deep deepStore (0 ∷ 0 ∷ 0 ∷ 1 ∷ []) true
+    ∷ mirror deep deepStore (0 ∷ 2 ∷ 0 ∷ 3 ∷ []) true
+    ∷ mirror deep deepStore (0 ∷ 0 ∷ 9223372036854775808 ∷ 1 ∷ []) false
+    ∷ mirror deep deepStore (0 ∷ 0 ∷ 0 ∷ 2 ∷ []) false
     ∷ []

@@ -2,11 +2,11 @@
 use Prim.Native.Nat.{ℕ, _+_, _*_, _/_, _%_, _^_, _<_}
 use mathlib.Core.Path.{_≡_}
 use mathlib.Core.Bool.{Bool, true, false, cond, not, _&&_}
-use mathlib.Core.List.{map, zipWith}
+use mathlib.Core.List.{List, map, zipWith}
 use lib.Dec.{eqb}
-use lib.ListN.{length}
+use lib.ListN.{length, getD}
 use Rattle.words.specs.Rules.{any, count, First, Nowhere}
-use Rattle.words.specs.Bits.{bitWords}
+use Rattle.words.specs.Bits.{bit, bitWords}
 use Rattle.geometry.specs.declared.Geometry.{Geometry}
 use Rattle.geometry.specs.Valid.{segmented, valid}
 use Rattle.geometry.specs.Sizes.{sets, rowWords, matchWords, setOf, offsetOf, addressOf, setLength}
@@ -74,6 +74,11 @@ pub record Mirrors (g : Geometry) (t : Tables) : Type 0 where
   pub entries : length (t .store) ≡ g .depth
   pub words : length (t .indicators) ≡ indicatorWords g
   pub bits : (r s : ℕ) → r < rows g → s < sets g → cell g (t .indicators) r (s / 64) (s % 64) ≡ covered g (storeCover g t) r s
+
+-- Indicators that differ from others in padding bits alone: bit b of word m belongs to a set where that number is below the sets.
+pub record DifferInPadding (g : Geometry) (ind others : List ℕ) : Type 0 where
+  pub words : length others ≡ length ind
+  pub bits : (m b : ℕ) → m < indicatorWords g → 64 * (m % rowWords g) + b < sets g → bit (getD others m 0) b ≡ bit (getD ind m 0) b
 
 -- A first-match answers with the lowest address that has the key, with document 01's w and c; or none, and no address
 -- has it.

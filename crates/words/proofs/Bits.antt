@@ -14,7 +14,7 @@ use lib.Seq.{getD-set-same, getD-set-other}
 use borrow.Author.Tests.{ltb-true, ltb-false, lt-ltb, le-ltb, eqb-true, eqb-false}
 use Rattle.words.specs.Rules.{count, tabulate, First}
 use Rattle.words.specs.Bits.{bit, setBit, clearBit, changeBit, rowMask, word, bitWords, totalOnes}
-use Rattle.words.proofs.Rules.{count-add, count-ext, count-none, length-tabulate, tabulate-ext}
+use Rattle.words.proofs.Rules.{count-add, count-ext, count-none, length-tabulate, getD-tabulate, tabulate-ext}
 
 -- a digit is 0 or 1
 two : (P : ℕ → Type 0) → P 0 → P 1 → (n : ℕ) → P (n % 2)
@@ -231,6 +231,12 @@ trailing-lowest (suc n) a h p = go (a % 2) refl (λ q. trailing-lowest n (a / 2)
 pub length-bitWords : (n : ℕ) (r : ℕ → Bool) → length (bitWords n r) ≡ n
 unfolding bitWords
 length-bitWords n r = length-tabulate n _
+
+-- the bit of a place
+pub bit-bitWords : (n : ℕ) (r : ℕ → Bool) (i : ℕ) → i < 64 * n → bit (getD (bitWords n r) (i / 64) 0) (i % 64) ≡ r i
+unfolding bitWords
+bit-bitWords n r i h =
+    ap (λ w. bit w (i % 64)) (getD-tabulate n _ (i / 64) 0 (omega arith)) ∙ bit-word 64 _ (i % 64) (omega arith) ∙ ap r (omega arith)
 
 pub bitWords-ext : (n : ℕ) (r s : ℕ → Bool) → ((i : ℕ) → r i ≡ s i) → bitWords n r ≡ bitWords n s
 unfolding bitWords

@@ -1,58 +1,64 @@
-//! The checking program. It holds the library's six calls and the program `camrun` to document 01,
-//! which is written out here a second time: `array` is its plain array, `image` its tables, `steps`
-//! its steps on any tables, `job` its job files and `report` what is printed for them. It runs the
+//! The checking program. It holds the library's calls and the program `camrun` to document 01,
+//! which is written out here a second time. `family` says what a family of calls is, `binary` is
+//! the family of the six calls, `jobs` has the job files and what is printed for them. It runs the
 //! cases of the paper, examples from other papers, random histories from an accepted clear, random
 //! single calls on damaged tables, and random jobs.
 
-mod array;
-mod call;
-mod camrun;
-mod cases;
-mod command_subjects;
+mod binary;
 mod coverage;
-mod damage;
+mod family;
+mod generate;
 mod geometry;
-mod histories;
-mod image;
-mod job;
-mod job_subjects;
 mod jobs;
+mod lent;
 mod memory;
 mod options;
 mod parts;
+mod pool;
 mod random;
 mod reduce;
-mod report;
 mod script;
 mod shapes;
-mod steps;
 mod subjects;
+mod tables;
 mod trial;
-mod vectors;
 
-use options::{Options, HELP};
-use parts::{Counts, HISTORIES, JOBS, SINGLE_CALLS};
+use binary::{cases, vectors, Binary};
+use options::{help, Names, Options};
+use parts::{histories, run_scripts, single_calls, Counts, Part};
 use std::process::ExitCode;
 
+/// The parts of random trials, in the order in which they run.
+fn random_parts() -> Vec<Box<dyn Part>> {
+    vec![
+        histories::<Binary>(),
+        single_calls::<Binary>(),
+        jobs::part(),
+    ]
+}
+
 fn main() -> ExitCode {
-    let options = match Options::parse(std::env::args().skip(1)) {
+    let parts = random_parts();
+    let names: Vec<Names> = parts.iter().map(|part| part.names()).collect();
+    let options = match Options::parse(&names, std::env::args().skip(1)) {
         Ok(options) => options,
         Err(what) => {
-            eprintln!("{what}\n\n{HELP}");
+            eprintln!("{what}\n\n{}", help(&names));
             return ExitCode::from(2);
         }
     };
     if options.help {
-        println!("{HELP}");
+        println!("{}", help(&names));
         return ExitCode::SUCCESS;
     }
-    if options.runs_jobs() {
-        if let Err(what) = camrun::is_there(&options.camrun) {
-            eprintln!("{what}");
-            return ExitCode::from(2);
-        }
+    if let Err(what) = parts.iter().try_for_each(|part| part.ready(&options)) {
+        eprintln!("{what}");
+        return ExitCode::from(2);
     }
-    let counts = run(&options);
+    let counts = match options.only_one {
+        true => run_only(&options, &parts),
+        false => run_all(&options, &parts),
+    };
     println!("{counts}");
     match counts.failed {
         0 => ExitCode::SUCCESS,
@@ -60,35 +66,21 @@ fn main() -> ExitCode {
     }
 }
 
-fn run(options: &Options) -> Counts {
+fn run_only(options: &Options, parts: &[Box<dyn Part>]) -> Counts {
     let mut counts = Counts::default();
-    if options.only_one() {
-        if let Some(index) = options.only_history {
-            counts.add(HISTORIES.run_one(options, index));
+    for part in parts {
+        if let Some(index) = options.only(&part.names()) {
+            counts.add(part.run_one(options, index));
         }
-        if let Some(index) = options.only_call {
-            counts.add(SINGLE_CALLS.run_one(options, index));
-        }
-        if let Some(index) = options.only_job {
-            counts.add(JOBS.run_one(options, index));
-        }
-        return counts;
     }
-    counts.add(parts::run_scripts(
-        options,
-        "cases of document 01",
-        cases::cases(),
-    ));
-    counts.add(parts::run_scripts(
-        options,
-        "outside vectors",
-        vectors::vectors(),
-    ));
-    counts.add(HISTORIES.run_all(options, options.histories));
-    counts.add(SINGLE_CALLS.run_all(options, options.calls));
-    if options.runs_jobs() {
-        counts.add(parts::run_listing(options));
-        counts.add(JOBS.run_all(options, options.jobs));
+    counts
+}
+
+fn run_all(options: &Options, parts: &[Box<dyn Part>]) -> Counts {
+    let mut counts = run_scripts(options, "cases of document 01", cases::cases());
+    counts.add(run_scripts(options, "outside vectors", vectors::vectors()));
+    for part in parts {
+        counts.add(part.run_all(options));
     }
     counts
 }

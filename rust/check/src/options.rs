@@ -1,54 +1,79 @@
 //! The command line.
 
+use std::collections::BTreeMap;
 use std::path::{Path, PathBuf};
 
-pub const HELP: &str = "\
+/// How a part of random trials is called, and how many it has.
+#[derive(Clone, Copy)]
+pub struct Names {
+    pub trials: &'static str,
+    pub trial: &'static str,
+    /// The option that says how many trials there are.
+    pub count: &'static str,
+    /// The option that runs one trial alone.
+    pub only: &'static str,
+    /// The number of trials where none is asked for.
+    pub default: u64,
+    /// Keeps the generators of two parts apart.
+    pub number: u64,
+}
+
+const FIRST_LINES: &str = "\
 check: runs the library and the program camrun beside document 01, written out a second time
 
-  --seed N           seed of the random trials (default 1)
-  --histories N      number of random histories (default 100000)
-  --calls N          number of random single calls (default 200000)
-  --jobs N           number of random jobs (default 3000); with 0 the program camrun is not needed
-  --only-history I   run history I of this seed and nothing else
-  --only-call I      run single call I of this seed and nothing else
-  --only-job I       run job I of this seed and nothing else
+  --seed N           seed of the random trials (default 1)";
+
+const LAST_LINES: &str = "
   --camrun PATH      the program camrun (default target/bin/camrun, from the root of the repository)
   --trace            print the name or number of each trial before it runs, to find one that crashes
   --help             print this
 
 Each case, vector, history, single call and job counts one, the listing that camrun prints too, and
-so does, for each random part, that it met all it is made for. A few trials may not, which is then a failure. A job that fails is cut
-down and put into a file, whose name is printed.
+so does, for each random part, that it met all it is made for. A few trials may not, which is then a
+failure. A job that fails is cut down and put into a file, whose name is printed. With --jobs 0 the
+program camrun is not needed.
 The exit status is 0 when nothing failed. The last line is 'N passed, M failed'.";
+
+/// The text of `--help`, with the options of these parts.
+pub fn help(parts: &[Names]) -> String {
+    let line = |option: String, what: String| format!("\n  {option:<18} {what}");
+    let count = |part: &Names| {
+        let what = format!("number of {} (default {})", part.trials, part.default);
+        line(format!("{} N", part.count), what)
+    };
+    let only = |part: &Names| {
+        let what = format!("run {} I of this seed and nothing else", part.trial);
+        line(format!("{} I", part.only), what)
+    };
+    let counts: String = parts.iter().map(count).collect();
+    let onlys: String = parts.iter().map(only).collect();
+    format!("{FIRST_LINES}{counts}{onlys}{LAST_LINES}")
+}
 
 pub struct Options {
     pub seed: u64,
-    pub histories: u64,
-    pub calls: u64,
-    pub jobs: u64,
-    pub only_history: Option<u64>,
-    pub only_call: Option<u64>,
-    pub only_job: Option<u64>,
+    /// What the options of parts are given.
+    of_parts: BTreeMap<&'static str, u64>,
+    /// Whether one trial alone is asked for.
+    pub only_one: bool,
     pub camrun: PathBuf,
     pub trace: bool,
     pub help: bool,
 }
 
 impl Options {
-    pub fn parse(words: impl Iterator<Item = String>) -> Result<Options, String> {
+    pub fn parse(
+        parts: &[Names],
+        mut words: impl Iterator<Item = String>,
+    ) -> Result<Options, String> {
         let mut options = Options {
             seed: 1,
-            histories: 100_000,
-            calls: 200_000,
-            jobs: 3000,
-            only_history: None,
-            only_call: None,
-            only_job: None,
+            of_parts: BTreeMap::new(),
+            only_one: false,
             camrun: PathBuf::from("target/bin/camrun"),
             trace: false,
             help: false,
         };
-        let mut words = words;
         while let Some(word) = words.next() {
             let mut value = || words.next().ok_or(format!("{word} needs a value"));
             let mut number = || {
@@ -57,30 +82,34 @@ impl Options {
             };
             match word.as_str() {
                 "--seed" => options.seed = number()?,
-                "--histories" => options.histories = number()?,
-                "--calls" => options.calls = number()?,
-                "--jobs" => options.jobs = number()?,
-                "--only-history" => options.only_history = Some(number()?),
-                "--only-call" => options.only_call = Some(number()?),
-                "--only-job" => options.only_job = Some(number()?),
                 // A name alone would be looked for on the path.
                 "--camrun" => options.camrun = Path::new(".").join(value()?),
                 "--trace" => options.trace = true,
                 "--help" => options.help = true,
-                _ => return Err(format!("{word} is no option")),
+                _ => {
+                    let option = of_a_part(parts, &word).ok_or(format!("{word} is no option"))?;
+                    options.of_parts.insert(option, number()?);
+                }
             }
         }
+        let only = |names: &Names| options.only(names).is_some();
+        options.only_one = parts.iter().any(only);
         Ok(options)
     }
 
-    /// Whether one trial alone is asked for.
-    pub fn only_one(&self) -> bool {
-        let asked = [self.only_history, self.only_call, self.only_job];
-        asked.iter().any(Option::is_some)
+    /// How many trials a part has.
+    pub fn trials(&self, names: &Names) -> u64 {
+        let asked = self.of_parts.get(names.count);
+        asked.copied().unwrap_or(names.default)
     }
 
-    /// Whether the program camrun is run at all.
-    pub fn runs_jobs(&self) -> bool {
-        self.only_job.is_some() || !self.only_one() && self.jobs > 0
+    /// The one trial of a part that is asked for.
+    pub fn only(&self, names: &Names) -> Option<u64> {
+        self.of_parts.get(names.only).copied()
     }
+}
+
+fn of_a_part(parts: &[Names], word: &str) -> Option<&'static str> {
+    let options = parts.iter().flat_map(|names| [names.count, names.only]);
+    options.into_iter().find(|&option| option == word)
 }

@@ -1,12 +1,9 @@
 //! The parts of a run, and what each prints.
 
-use crate::camrun;
-use crate::coverage::{self, Required, Tally};
-use crate::damage::random_single_call;
-use crate::histories::random_history;
-use crate::job::Job;
-use crate::jobs::random_job;
-use crate::options::Options;
+use crate::coverage::{Required, Tally};
+use crate::family::{Family, Histories};
+use crate::generate::{random_history, random_single_call};
+use crate::options::{Names, Options};
 use crate::random::Random;
 use crate::reduce::{reduce, Fails};
 use crate::script::Script;
@@ -33,7 +30,7 @@ impl Counts {
         self.failed += other.failed;
     }
 
-    fn count(&mut self, passed: bool) {
+    pub fn count(&mut self, passed: bool) {
         match passed {
             true => self.passed += 1,
             false => self.failed += 1,
@@ -47,7 +44,7 @@ impl fmt::Display for Counts {
     }
 }
 
-pub fn run_scripts(options: &Options, name: &str, scripts: Vec<Script>) -> Counts {
+pub fn run_scripts<F: Family>(options: &Options, name: &str, scripts: Vec<Script<F>>) -> Counts {
     let mut counts = Counts::default();
     for script in scripts {
         if options.trace {
@@ -68,101 +65,89 @@ pub fn run_scripts(options: &Options, name: &str, scripts: Vec<Script>) -> Count
     counts
 }
 
-pub fn run_listing(options: &Options) -> Counts {
-    let mut counts = Counts::default();
-    let outcome = camrun::judge_listing(options);
-    counts.count(outcome.is_ok());
-    if let Err(what) = outcome {
-        println!("FAILED, camrun's listing\n    {what}");
+/// A part made of random trials, whatever these are.
+pub trait Part {
+    fn names(&self) -> Names;
+    /// Whether all is there that it needs, before anything runs.
+    fn ready(&self, _options: &Options) -> Result<(), String> {
+        Ok(())
     }
-    println!("camrun's listing in document 01: {counts}");
-    counts
+    fn run_all(&self, options: &Options) -> Counts;
+    fn run_one(&self, options: &Options, index: u64) -> Counts;
 }
 
-/// A part made of random trials.
 pub struct RandomPart<T> {
-    name: &'static str,
-    /// The option that runs one trial alone.
-    option: &'static str,
-    /// Keeps the generators of two parts apart.
-    number: u64,
-    make: fn(&mut Random) -> T,
+    pub names: Names,
+    pub make: fn(&mut Random) -> T,
     /// What is a trial of this part, however it was made or cut down.
-    admits: fn(&T) -> bool,
-    judge: fn(&T, &Options, &mut Tally) -> Result<(), String>,
-    cut: fn(T, Fails<T>) -> T,
+    pub admits: fn(&T) -> bool,
+    pub judge: fn(&T, &Options, &mut Tally) -> Result<(), String>,
+    pub cut: fn(T, Fails<T>) -> T,
     /// What is printed of the trial of this seed and number, which failed.
-    text: fn(&T, u64, u64) -> String,
-    required: Required,
+    pub text: fn(&T, u64, u64) -> String,
+    pub required: Required,
 }
 
-pub const HISTORIES: RandomPart<Trial> = RandomPart {
-    name: "random histories",
-    option: "--only-history",
-    number: 1,
-    make: random_history,
-    admits: Trial::is_history,
-    judge: |trial, _, tally| trial.judge_history(tally),
-    cut: reduce,
-    text: |trial, _, _| trial.to_string(),
-    required: coverage::OF_HISTORIES,
-};
+pub fn histories<F: Histories>() -> Box<dyn Part> {
+    Box::new(RandomPart::<Trial<F>> {
+        names: F::HISTORIES,
+        make: random_history,
+        admits: Trial::is_history,
+        judge: |trial, _, tally| trial.judge_history(tally),
+        cut: reduce,
+        text: |trial, _, _| trial.to_string(),
+        required: F::OF_HISTORIES,
+    })
+}
 
-pub const SINGLE_CALLS: RandomPart<Trial> = RandomPart {
-    name: "random single calls",
-    option: "--only-call",
-    number: 2,
-    make: random_single_call,
-    admits: Trial::is_single_call,
-    judge: |trial, _, tally| trial.judge_single_call(tally),
-    cut: reduce,
-    text: |trial, _, _| trial.to_string(),
-    required: coverage::OF_SINGLE_CALLS,
-};
+pub fn single_calls<F: Family>() -> Box<dyn Part> {
+    Box::new(RandomPart::<Trial<F>> {
+        names: F::SINGLE_CALLS,
+        make: random_single_call,
+        admits: Trial::is_single_call,
+        judge: |trial, _, tally| trial.judge_single_call(tally),
+        cut: reduce,
+        text: |trial, _, _| trial.to_string(),
+        required: F::OF_SINGLE_CALLS,
+    })
+}
 
-/// Any file is a job.
-pub const JOBS: RandomPart<Job> = RandomPart {
-    name: "random jobs",
-    option: "--only-job",
-    number: 3,
-    make: random_job,
-    admits: |_| true,
-    judge: camrun::judge,
-    cut: camrun::cut,
-    text: camrun::keep,
-    required: coverage::OF_JOBS,
-};
+impl<T> Part for RandomPart<T> {
+    fn names(&self) -> Names {
+        self.names
+    }
 
-impl<T> RandomPart<T> {
-    pub fn run_all(&self, options: &Options, trials: u64) -> Counts {
+    fn run_all(&self, options: &Options) -> Counts {
         let mut counts = Counts::default();
         let mut tally = Tally::default();
-        for index in 0..trials {
+        for index in 0..options.trials(&self.names) {
             let shown = counts.failed < SHOWN_FAILURES;
             counts.count(self.run_trial(options, index, &mut tally, shown));
         }
-        println!("{}: {counts} (seed {})", self.name, options.seed);
+        println!("{}: {counts} (seed {})", self.names.trials, options.seed);
         tally.print(&self.required);
         let missing = tally.missing(&self.required);
         counts.count(missing.is_empty());
         for subject in missing {
-            println!("FAILED, never met by the {}: {subject}", self.name);
+            println!("FAILED, never met by the {}: {subject}", self.names.trials);
         }
         counts
     }
 
-    pub fn run_one(&self, options: &Options, index: u64) -> Counts {
+    fn run_one(&self, options: &Options, index: u64) -> Counts {
         let mut counts = Counts::default();
         counts.count(self.run_trial(options, index, &mut Tally::default(), true));
         counts
     }
+}
 
+impl<T> RandomPart<T> {
     fn run_trial(&self, options: &Options, index: u64, tally: &mut Tally, shown: bool) -> bool {
-        let mut random = Random::of_trial(options.seed, self.number, index);
+        let mut random = Random::of_trial(options.seed, self.names.number, index);
         let trial = (self.make)(&mut random);
         assert!((self.admits)(&trial), "the generator made another thing");
         if options.trace {
-            println!("{} {index}", self.option);
+            println!("{} {index}", self.names.only);
         }
         let outcome = (self.judge)(&trial, options, tally);
         let passed = outcome.is_ok();
@@ -188,7 +173,7 @@ impl<T> RandomPart<T> {
         let seed = options.seed;
         println!(
             "FAILED, {} (--seed {seed} {} {index})",
-            self.name, self.option
+            self.names.trials, self.names.only
         );
         println!("    {}", (self.text)(&cut, seed, index));
         println!("    {}", what.borrow());

@@ -1,21 +1,25 @@
 //! Cuts a failing trial down to one that a person can follow.
 
-use crate::call::{Call, EMPTY};
+use crate::family::{AnyCall, Family, Sort, ADDRESS};
 use crate::geometry::Geometry;
+use crate::lent::AnyTables;
 use crate::trial::Trial;
 use std::collections::BTreeSet;
 use std::ops::Range;
 
 /// Whether a trial is one of its part and still fails.
-pub type Fails<'a, T = Trial> = &'a dyn Fn(&T) -> bool;
+pub type Fails<'a, T> = &'a dyn Fn(&T) -> bool;
+
+/// One way to make a trial smaller; says whether it did.
+type Step<F> = fn(&mut Trial<F>, Fails<Trial<F>>) -> bool;
 
 /// A change that makes a trial smaller in some way.
-type Edit = Box<dyn Fn(&mut Trial)>;
+type Edit<F> = Box<dyn Fn(&mut Trial<F>)>;
 
 /// Removes calls until none can be removed, then lowers numbers and empties tables where it still
 /// fails; begins again as long as something changes.
-pub fn reduce(mut trial: Trial, fails: Fails) -> Trial {
-    let steps: [fn(&mut Trial, Fails) -> bool; 5] = [
+pub fn reduce<F: Family>(mut trial: Trial<F>, fails: Fails<Trial<F>>) -> Trial<F> {
+    let steps: [Step<F>; 5] = [
         remove_calls,
         |trial, fails| edit_while_any(trial, fails, smaller_geometries),
         |trial, fails| edit_while_any(trial, fails, lower_numbers_of_calls),
@@ -46,7 +50,11 @@ fn try_edit<T: Clone>(trial: &mut T, fails: Fails<T>, edit: impl Fn(&mut T)) -> 
 
 /// Makes the first edit with which the trial still fails, and asks for edits again, until none is
 /// left.
-fn edit_while_any(trial: &mut Trial, fails: Fails, edits: fn(&Trial) -> Vec<Edit>) -> bool {
+fn edit_while_any<F: Family>(
+    trial: &mut Trial<F>,
+    fails: Fails<Trial<F>>,
+    edits: fn(&Trial<F>) -> Vec<Edit<F>>,
+) -> bool {
     let mut changed = false;
     while edits(trial).iter().any(|edit| try_edit(trial, fails, edit)) {
         changed = true;
@@ -54,8 +62,8 @@ fn edit_while_any(trial: &mut Trial, fails: Fails, edits: fn(&Trial) -> Vec<Edit
     changed
 }
 
-fn remove_calls(trial: &mut Trial, fails: Fails) -> bool {
-    let remove = |trial: &mut Trial, run| drop(trial.calls.drain(run));
+fn remove_calls<F: Family>(trial: &mut Trial<F>, fails: Fails<Trial<F>>) -> bool {
+    let remove = |trial: &mut Trial<F>, run| drop(trial.calls.drain(run));
     remove_runs(trial, fails, |trial| trial.calls.len(), remove)
 }
 
@@ -86,7 +94,7 @@ fn lower_numbers(n: u32) -> Vec<u32> {
     lower
 }
 
-fn smaller_geometries(trial: &Trial) -> Vec<Edit> {
+fn smaller_geometries<F: Family>(trial: &Trial<F>) -> Vec<Edit<F>> {
     let g = trial.geometry;
     let mut smaller = Vec::new();
     for pattern_width in lower_numbers(g.pattern_width) {
@@ -107,43 +115,33 @@ fn smaller_geometries(trial: &Trial) -> Vec<Edit> {
             ..g
         });
     }
-    let edit = |new| -> Edit { Box::new(move |trial| change_geometry(trial, new)) };
+    let edit = |new| -> Edit<F> { Box::new(move |trial| change_geometry(trial, new)) };
     smaller.into_iter().map(edit).collect()
 }
 
 /// What had the right length for a valid geometry gets the right length for another.
-fn change_geometry(trial: &mut Trial, new: Geometry) {
+fn change_geometry<F: Family>(trial: &mut Trial<F>, new: Geometry) {
     let old = trial.geometry;
     trial.geometry = new;
     if !(old.is_valid() && new.is_valid()) {
         return;
     }
-    if trial.before.store.len() == old.depth as usize {
-        trial.before.store.resize(new.depth as usize, EMPTY);
-    }
-    if trial.before.indicators.len() == old.indicator_words() {
-        trial.before.indicators.resize(new.indicator_words(), 0);
-    }
-    for call in &mut trial.calls {
-        if let Call::AllMatch { lent, .. } = call {
-            if lent.len() == old.match_words() {
-                lent.resize(new.match_words(), 0);
-            }
+    for lent in trial.lent_mut() {
+        if lent.fits(&old) {
+            lent.resize(lent.right_length(&new));
         }
     }
 }
 
-fn lower_numbers_of_calls(trial: &Trial) -> Vec<Edit> {
-    let mut edits = Vec::new();
+fn lower_numbers_of_calls<F: Family>(trial: &Trial<F>) -> Vec<Edit<F>> {
+    let mut edits: Vec<Edit<F>> = Vec::new();
     for (i, call) in trial.calls.iter().enumerate() {
-        let mut add = |lower: Call| {
-            edits.push(Box::new(move |trial: &mut Trial| trial.calls[i] = lower.clone()) as Edit)
-        };
-        for address in call.address().map_or(Vec::new(), lower_numbers) {
-            add(call.with_numbers(|_| address, |pattern| pattern));
-        }
-        for pattern in call.pattern().map_or(Vec::new(), lower_numbers) {
-            add(call.with_numbers(|address| address, |_| pattern));
+        for (k, (_, old)) in numbers_of(call).into_iter().enumerate() {
+            for new in lower_numbers(old) {
+                edits.push(Box::new(move |trial| {
+                    *trial.calls[i].numbers()[k].1 = new;
+                }));
+            }
         }
     }
     edits.extend(lower_numbers_together(trial));
@@ -151,46 +149,45 @@ fn lower_numbers_of_calls(trial: &Trial) -> Vec<Edit> {
 }
 
 /// Lowers a number in all calls that have it, so that calls which belong together stay so.
-fn lower_numbers_together(trial: &Trial) -> Vec<Edit> {
-    let mut edits: Vec<Edit> = Vec::new();
-    for old in numbers(trial, Call::address) {
-        for new in lower_numbers(old) {
-            let lower = move |n| if n == old { new } else { n };
-            edits.push(Box::new(move |trial| change_numbers(trial, lower, |n| n)));
-        }
-    }
-    for old in numbers(trial, Call::pattern) {
-        for new in lower_numbers(old) {
-            let lower = move |n| if n == old { new } else { n };
-            edits.push(Box::new(move |trial| change_numbers(trial, |n| n, lower)));
+fn lower_numbers_together<F: Family>(trial: &Trial<F>) -> Vec<Edit<F>> {
+    let mut edits: Vec<Edit<F>> = Vec::new();
+    for old in numbers(trial) {
+        for new in lower_numbers(old.1) {
+            let lower = move |number: (Sort, u32)| if number == old { new } else { number.1 };
+            edits.push(Box::new(move |trial| change_numbers(trial, lower)));
         }
     }
     for distance in whole_sets_below(trial) {
-        let lower = move |n: u32| n - distance;
-        edits.push(Box::new(move |trial| change_numbers(trial, lower, |n| n)));
+        let lower = move |(sort, n)| if sort == ADDRESS { n - distance } else { n };
+        edits.push(Box::new(move |trial| change_numbers(trial, lower)));
     }
     edits
 }
 
-fn change_numbers(
-    trial: &mut Trial,
-    address_to: impl Fn(u32) -> u32,
-    pattern_to: impl Fn(u32) -> u32,
-) {
-    for call in &mut trial.calls {
-        *call = call.with_numbers(&address_to, &pattern_to);
+fn change_numbers<F: Family>(trial: &mut Trial<F>, to: impl Fn((Sort, u32)) -> u32) {
+    let calls = trial.calls.iter_mut();
+    for (sort, number) in calls.flat_map(|call| call.numbers()) {
+        *number = to((sort, *number));
     }
 }
 
-/// The different numbers of this sort in the calls.
-fn numbers(trial: &Trial, sort: fn(&Call) -> Option<u32>) -> BTreeSet<u32> {
-    trial.calls.iter().filter_map(sort).collect()
+fn numbers_of(call: &impl AnyCall) -> Vec<(Sort, u32)> {
+    let mut call = call.clone();
+    let numbers = call.numbers().into_iter();
+    numbers.map(|(sort, number)| (sort, *number)).collect()
+}
+
+/// The different numbers of each sort in the calls.
+fn numbers<F: Family>(trial: &Trial<F>) -> BTreeSet<(Sort, u32)> {
+    trial.calls.iter().flat_map(numbers_of).collect()
 }
 
 /// How far all addresses can move down together, each staying at its place in a set.
-fn whole_sets_below(trial: &Trial) -> Vec<u32> {
+fn whole_sets_below<F: Family>(trial: &Trial<F>) -> Vec<u32> {
     let set_width = trial.geometry.set_width.max(1);
-    let lowest = numbers(trial, Call::address).first().copied().unwrap_or(0);
+    let numbers = numbers(trial).into_iter();
+    let addresses = numbers.filter(|&(sort, _)| sort == ADDRESS);
+    let lowest = addresses.map(|(_, address)| address).min().unwrap_or(0);
     let sets = lowest / set_width;
     let mut distances = vec![sets * set_width, sets / 2 * set_width];
     distances.retain(|&distance| distance > 0);
@@ -198,27 +195,15 @@ fn whole_sets_below(trial: &Trial) -> Vec<u32> {
 }
 
 /// Brings lengths that are wrong nearer to the right ones.
-fn nearer_lengths(trial: &Trial) -> Vec<Edit> {
+fn nearer_lengths<F: Family>(trial: &Trial<F>) -> Vec<Edit<F>> {
     let g = trial.geometry;
-    let mut edits: Vec<Edit> = Vec::new();
+    let mut edits: Vec<Edit<F>> = Vec::new();
     if !g.is_valid() {
         return edits;
     }
-    for n in nearer(trial.before.store.len(), g.depth as usize) {
-        edits.push(Box::new(move |trial| trial.before.store.resize(n, EMPTY)));
-    }
-    for n in nearer(trial.before.indicators.len(), g.indicator_words()) {
-        edits.push(Box::new(move |trial| trial.before.indicators.resize(n, 0)));
-    }
-    for (i, call) in trial.calls.iter().enumerate() {
-        let Call::AllMatch { key, lent } = call else {
-            continue;
-        };
-        for n in nearer(lent.len(), g.match_words()) {
-            let (key, mut lent) = (*key, lent.clone());
-            lent.resize(n, 0);
-            let call = Call::AllMatch { key, lent };
-            edits.push(Box::new(move |trial| trial.calls[i] = call.clone()));
+    for (i, lent) in trial.lent().into_iter().enumerate() {
+        for length in nearer(lent.length(), lent.right_length(&g)) {
+            edits.push(Box::new(move |trial| trial.lent_mut()[i].resize(length)));
         }
     }
     edits
@@ -231,28 +216,30 @@ fn nearer(length: usize, right: usize) -> Vec<usize> {
     lengths
 }
 
-fn empty_tables(trial: &mut Trial, fails: Fails) -> bool {
-    let entries = empty_words(trial, fails, |trial| &mut trial.before.store, EMPTY);
-    let words = empty_words(trial, fails, |trial| &mut trial.before.indicators, 0);
-    let bits = empty_bits(trial, fails);
-    entries || words || bits
+/// Empties words of every table, and then clears bits of what is left.
+fn empty_tables<F: Family>(trial: &mut Trial<F>, fails: Fails<Trial<F>>) -> bool {
+    let mut changed = false;
+    let tables = trial.before.all().len();
+    for step in [empty_words, empty_bits] {
+        for table in 0..tables {
+            changed |= step(trial, fails, table);
+        }
+    }
+    changed
 }
 
 /// Makes runs of a table's words empty, long runs first.
-fn empty_words<T: Copy + PartialEq>(
-    trial: &mut Trial,
-    fails: Fails,
-    table: fn(&mut Trial) -> &mut Vec<T>,
-    empty: T,
-) -> bool {
+fn empty_words<F: Family>(trial: &mut Trial<F>, fails: Fails<Trial<F>>, table: usize) -> bool {
     let mut changed = false;
-    let length = table(trial).len();
+    let length = trial.before.all()[table].length();
     let mut run = length;
     while run > 0 {
         for start in (0..length).step_by(run) {
-            let end = (start + run).min(length);
-            if table(trial)[start..end].iter().any(|&word| word != empty) {
-                changed |= try_edit(trial, fails, |trial| table(trial)[start..end].fill(empty));
+            let words = start..(start + run).min(length);
+            if !trial.before.all()[table].is_empty(words.clone()) {
+                changed |= try_edit(trial, fails, |trial| {
+                    trial.before.all_mut()[table].empty(words.clone())
+                });
             }
         }
         run /= 2;
@@ -260,14 +247,14 @@ fn empty_words<T: Copy + PartialEq>(
     changed
 }
 
-/// Clears single bits of the indicator words that are left.
-fn empty_bits(trial: &mut Trial, fails: Fails) -> bool {
+/// Clears single bits of the words that are left.
+fn empty_bits<F: Family>(trial: &mut Trial<F>, fails: Fails<Trial<F>>, table: usize) -> bool {
     let mut changed = false;
-    for m in 0..trial.before.indicators.len() {
-        for bit in 0..64 {
-            if trial.before.indicators[m] >> bit & 1 == 1 {
-                changed |= try_edit(trial, fails, |trial| trial.before.indicators[m] ^= 1 << bit);
-            }
+    for word in 0..trial.before.all()[table].length() {
+        for bit in trial.before.all()[table].bits(word) {
+            changed |= try_edit(trial, fails, |trial| {
+                trial.before.all_mut()[table].flip(word, bit)
+            });
         }
     }
     changed

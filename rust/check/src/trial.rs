@@ -1,87 +1,101 @@
 //! A trial: a geometry, the tables as they are before, and the calls made on them. Histories and
 //! single calls are both trials; they differ in what they are held to.
 
-use crate::array::Array;
-use crate::call::{Call, EMPTY};
 use crate::coverage::Tally;
+use crate::family::{AnyAnswer, AnyCall, Family, Histories};
 use crate::geometry::Geometry;
-use crate::image;
-use crate::memory::{compare_answer, Layer, Memory};
-use crate::steps::{self, Tables};
-use crate::subjects;
+use crate::lent::{AnyTables, Lent};
+use crate::memory::{Layer, Memory};
 use std::fmt;
 
 #[derive(Clone)]
-pub struct Trial {
+pub struct Trial<F: Family> {
     pub geometry: Geometry,
-    pub before: Tables,
-    pub calls: Vec<Call>,
+    pub before: F::Tables,
+    pub calls: Vec<F::Call>,
 }
 
-impl Trial {
+impl<F: Histories> Trial<F> {
     /// What demand 3 speaks of: calls that begin with a clear on tables that it accepts.
     pub fn is_history(&self) -> bool {
-        let g = &self.geometry;
-        self.calls.first() == Some(&Call::Clear)
-            && g.is_valid()
-            && self.before.store.len() == g.depth as usize
-            && self.before.indicators.len() == g.indicator_words()
+        self.first_array().is_some()
     }
 
-    pub fn is_single_call(&self) -> bool {
-        self.calls.len() == 1
+    fn first_array(&self) -> Option<F::Array> {
+        F::begin(&self.geometry, &self.before, self.calls.first()?)
     }
 
-    fn lend(&self) -> Memory {
-        let before = &self.before;
-        Memory::new(self.geometry, &before.store, &before.indicators, Layer::Raw)
-    }
-
-    /// Every answer is the plain array's, and the tables at the end are its store and its image.
+    /// Every answer is the plain array's, and the tables at the end are those that belong to it.
     /// The array runs first, by itself: no answer and no table is fed to it.
     pub fn judge_history(&self, tally: &mut Tally) -> Result<(), String> {
-        let mut array = Array::empty(self.geometry);
+        let mut array = self.first_array().expect("it is a history");
         let mut answers = Vec::new();
         for call in &self.calls {
-            let before = array.entries().to_vec();
-            let right = array.call(call);
-            let met = subjects::of_history(&self.geometry, &before, call, &right);
-            tally.count(&self.geometry, call.name(), &right, met);
+            let before = array.clone();
+            let right = F::answer(&mut array, call);
+            let met = F::met_in_history(&before, call, &right);
+            tally.count(&self.geometry, call.name(), right.label(), met);
             answers.push(right);
         }
         let mut memory = self.lend();
         for (call, right) in self.calls.iter().zip(&answers) {
-            compare_answer(call, &memory.make(call)?, right)?;
+            memory.call(call, right)?;
         }
-        let entries = array.entries();
         memory
-            .compare_tables(
-                &image::store(entries),
-                &image::indicators(&self.geometry, entries),
-            )
+            .compare_tables(&F::tables_of(&array))
             .map_err(|what| format!("at the end {what}"))
+    }
+}
+
+impl<F: Family> Trial<F> {
+    pub fn is_single_call(&self) -> bool {
+        self.calls.len() == 1
+    }
+
+    /// All that is lent: the tables, and then what is lent to single calls.
+    pub fn lent(&self) -> Vec<&dyn Lent> {
+        let mut lent = self.before.all();
+        lent.extend(self.calls.iter().filter_map(AnyCall::lent));
+        lent
+    }
+
+    pub fn lent_mut(&mut self) -> Vec<&mut dyn Lent> {
+        let mut lent = self.before.all_mut();
+        lent.extend(self.calls.iter_mut().filter_map(AnyCall::lent_mut));
+        lent
+    }
+
+    fn lend(&self) -> Memory<F> {
+        Memory {
+            geometry: self.geometry,
+            tables: self.before.clone(),
+            layer: Layer::Raw,
+        }
     }
 
     /// The answer and every word afterwards are those of the step on these tables.
     pub fn judge_single_call(&self, tally: &mut Tally) -> Result<(), String> {
         let call = &self.calls[0];
         let mut tables = self.before.clone();
-        let right = steps::step(&self.geometry, &mut tables, call);
-        let met = subjects::of_step(&self.geometry, &self.before, call, &right);
-        tally.count(&self.geometry, call.name(), &right, met);
+        let right = F::step(&self.geometry, &mut tables, call);
+        let met = F::met_by_step(&self.geometry, &self.before, call, &right);
+        tally.count(&self.geometry, call.name(), right.label(), met);
         let mut memory = self.lend();
-        compare_answer(call, &memory.make(call)?, &right)?;
+        memory.call(call, &right)?;
         memory
-            .compare_tables(&tables.store, &tables.indicators)
+            .compare_tables(&tables)
             .map_err(|what| format!("after {call} {what}"))
     }
 
+    fn fits(&self, table: &dyn Lent) -> bool {
+        self.geometry.is_valid() && table.fits(&self.geometry)
+    }
+
     /// The call, with the length of a match word that does not fit.
-    fn notation(&self, call: &Call) -> String {
-        let g = &self.geometry;
-        match call {
-            Call::AllMatch { lent, .. } if !g.is_valid() || lent.len() != g.match_words() => {
-                format!("{call} (match word of length {})", lent.len())
+    fn notation(&self, call: &F::Call) -> String {
+        match call.lent() {
+            Some(lent) if !self.fits(lent) => {
+                format!("{call} ({} of length {})", lent.name(), lent.length())
             }
             _ => call.to_string(),
         }
@@ -90,27 +104,16 @@ impl Trial {
     /// What the tables hold before, where it is not a cleared memory's, and lengths that do not
     /// fit.
     fn tables_before(&self) -> Vec<String> {
-        let Tables { store, indicators } = &self.before;
-        let mut items = Vec::new();
-        let fits = |len: usize, right: fn(&Geometry) -> usize| {
-            self.geometry.is_valid() && len == right(&self.geometry)
-        };
-        if !fits(store.len(), |g| g.depth as usize) {
-            items.push(format!("store of {} entries", store.len()));
-        }
-        if !fits(indicators.len(), Geometry::indicator_words) {
-            items.push(format!("indicators of {} words", indicators.len()));
-        }
-        let entries = store.iter().enumerate().filter(|(_, &e)| e != EMPTY);
-        items.extend(entries.map(|(a, e)| format!("store {a} is {e}")));
-        let words = indicators.iter().enumerate().filter(|(_, &w)| w != 0);
-        items.extend(words.map(|(m, w)| format!("indicators word {m} is {w:#x}")));
-        items
+        let tables = self.before.all();
+        let wrong = tables.iter().filter(|table| !self.fits(**table));
+        let lengths = wrong.map(|table| table.length_text());
+        let words = tables.iter().flat_map(|table| table.words_text());
+        lengths.chain(words).collect()
     }
 }
 
 /// Document 01's notation: `kind 2, D 8, P 2, W 2: clear, 2:=1, match 1`.
-impl fmt::Display for Trial {
+impl<F: Family> fmt::Display for Trial<F> {
     fn fmt(&self, f: &mut fmt::Formatter) -> fmt::Result {
         const SHOWN: usize = 12;
         write!(f, "{}", self.geometry)?;

@@ -1,8 +1,11 @@
 //! Examples from source documents 001 and 003, with their numbers.
 
-use crate::call::Call;
+use crate::binary::call::Call;
+use crate::binary::lines::{
+    all, at, block_ram, clear, column_sums, erase, indicators, none, refused, script, write, Line,
+    Script,
+};
 use crate::geometry::{geometry, Geometry, CASCADED, SEGMENTED, TRANSPOSED};
-use crate::script::{all, at, clear, erase, none, refused, write, Line, Script};
 
 /// Source document 001's CAM32x9: 32 locations, nine bits of data, 512 words.
 const CAM32X9: Geometry = geometry(TRANSPOSED, 32, 9, 1);
@@ -18,13 +21,13 @@ pub fn vectors() -> Vec<Script> {
 
 /// One CAM32x9 of source document 001.
 fn one_macro() -> Vec<Script> {
-    let cam32x9 = |name, lines| Script::new(name, CAM32X9, (32, 512), lines);
+    let cam32x9 = |name, lines| script(name, CAM32X9, (32, 512), lines);
     let one_match = vec![
         clear(),
         write(2, 7, None),
         at(7, 2, 1, 0),
         all(7, &[4], 1),
-        Line::Indicators(&[(7, 4)]),
+        indicators(&[(7, 4)]),
     ];
     let absent = vec![clear(), write(2, 7, None), none(8, 1, 0), all(8, &[0], 0)];
     // The bit of data p and address a is number 32 × p + a.
@@ -34,7 +37,7 @@ fn one_macro() -> Vec<Script> {
         write(5, 1, None),
         write(2, 7, None),
         write(31, 511, None),
-        Line::BlockRam(&[0, 37, 226, 16_383]),
+        block_ram(&[0, 37, 226, 16_383]),
     ];
     vec![
         cam32x9("001: data 7 at location 2", one_match),
@@ -51,7 +54,7 @@ fn seven_locations() -> Vec<Line> {
     lines.extend([
         all(300, &[0x0910_1803], 7),
         at(300, 0, 1, 0),
-        Line::Indicators(&[(300, 0x0910_1803)]),
+        indicators(&[(300, 0x0910_1803)]),
     ]);
     lines
 }
@@ -63,10 +66,10 @@ fn overwritten() -> Vec<Line> {
         write(2, 5, Some(7)),
         none(7, 1, 0),
         at(5, 2, 1, 0),
-        Line::Indicators(&[(5, 4)]),
+        indicators(&[(5, 4)]),
         erase(2, Some(5)),
         none(5, 1, 0),
-        Line::Indicators(&[]),
+        indicators(&[]),
     ]
 }
 
@@ -82,10 +85,10 @@ fn four_macros_deep() -> Script {
         at(7, 34, 1, 0),
         all(7, &[0x4_0000_0000, 0x4_0000_0000], 2),
         none(8, 2, 0),
-        Line::Indicators(&[(14, 0x4_0000_0000), (15, 0x4_0000_0000)]),
+        indicators(&[(14, 0x4_0000_0000), (15, 0x4_0000_0000)]),
     ];
     let deep = geometry(TRANSPOSED, 128, 9, 1);
-    Script::new("001: 128 locations", deep, (128, 1024), lines)
+    script("001: 128 locations", deep, (128, 1024), lines)
 }
 
 /// Two blocks for 18 bits: a match only if both nine-bit parts match. 2567 is 5 and 7, the low part
@@ -96,7 +99,7 @@ fn two_macros_wide() -> Script {
         clear(),
         write(2, 2567, None),
         write(3, 4616, None),
-        Line::Indicators(&[(7, 4), (8, 8), (517, 4), (521, 8)]),
+        indicators(&[(7, 4), (8, 8), (517, 4), (521, 8)]),
         at(2567, 2, 1, 0),
         at(4616, 3, 1, 0),
         none(2568, 1, 0),
@@ -107,7 +110,7 @@ fn two_macros_wide() -> Script {
         all(2568, &[0], 0),
     ];
     let wide = geometry(CASCADED, 32, 18, 1);
-    Script::new("001: 18 bits", wide, (32, 1024), lines)
+    script("001: 18 bits", wide, (32, 1024), lines)
 }
 
 /// Source document 003's pictures of one pattern: '10' at address 4 (figure 2.10); 4 in set 1 at
@@ -116,25 +119,25 @@ fn indicators_of_one_pattern() -> Vec<Script> {
     let by_address = vec![
         clear(),
         write(4, 2, None),
-        Line::Indicators(&[(2, 16)]),
+        indicators(&[(2, 16)]),
         at(2, 4, 1, 0),
     ];
     let by_set = vec![
         clear(),
         write(6, 4, None),
-        Line::Indicators(&[(4, 2)]),
+        indicators(&[(4, 2)]),
         at(4, 6, 1, 3),
         all(4, &[64], 1),
     ];
     let (transposed, segmented) = (geometry(TRANSPOSED, 8, 2, 1), geometry(SEGMENTED, 8, 3, 4));
     vec![
-        Script::new(
+        script(
             "003: pattern 2 at address 4",
             transposed,
             (8, 4),
             by_address,
         ),
-        Script::new("003: pattern 4 in set 1", segmented, (8, 8), by_set),
+        script("003: pattern 4 in set 1", segmented, (8, 8), by_set),
     ]
 }
 
@@ -145,8 +148,8 @@ fn number_of_sets() -> Vec<Script> {
     let passes = vec![clear(), write(127, 1, None), at(1, 127, 1, 2)];
     let refuses = vec![refused(Call::Clear, 2)];
     vec![
-        Script::new("003: 64 sets", g, (128, 2), passes),
-        Script::new("003: not 65 sets", g, (128, 4), refuses),
+        script("003: 64 sets", g, (128, 2), passes),
+        script("003: not 65 sets", g, (128, 4), refuses),
     ]
 }
 
@@ -155,19 +158,19 @@ fn number_of_sets() -> Vec<Script> {
 fn sums_of_addresses() -> Script {
     let lines = vec![
         clear(),
-        Line::ColumnSums(&[0, 0, 0, 0, 0, 0, 0, 0]),
+        column_sums(&[0, 0, 0, 0, 0, 0, 0, 0]),
         write(0, 5, None),
         write(3, 5, None),
         write(4, 0, None),
         write(7, 7, None),
         write(7, 1, Some(7)),
         write(4, 0, Some(0)),
-        Line::ColumnSums(&[1, 0, 0, 1, 1, 0, 0, 1]),
+        column_sums(&[1, 0, 0, 1, 1, 0, 0, 1]),
         erase(3, Some(5)),
-        Line::ColumnSums(&[1, 0, 0, 0, 1, 0, 0, 1]),
+        column_sums(&[1, 0, 0, 0, 1, 0, 0, 1]),
     ];
     let g = geometry(TRANSPOSED, 8, 3, 1);
-    Script::new("003: column sums, 6.2.1", g, (8, 8), lines)
+    script("003: column sums, 6.2.1", g, (8, 8), lines)
 }
 
 /// Its theorem 6.2.2, with empty places allowed: the column of a set sums to the number of
@@ -188,15 +191,15 @@ fn sums_of_sets() -> Script {
     let mut lines = vec![clear()];
     lines.extend(first.map(|(address, pattern)| write(address, pattern, None)));
     lines.extend([
-        Line::ColumnSums(&[2, 1, 0, 4]),
+        column_sums(&[2, 1, 0, 4]),
         write(0, 7, Some(5)),
-        Line::ColumnSums(&[3, 1, 0, 4]),
+        column_sums(&[3, 1, 0, 4]),
         erase(4, Some(0)),
-        Line::ColumnSums(&[3, 1, 0, 4]),
+        column_sums(&[3, 1, 0, 4]),
         erase(6, Some(0)),
         write(15, 1, Some(4)),
-        Line::ColumnSums(&[3, 0, 0, 3]),
+        column_sums(&[3, 0, 0, 3]),
     ]);
     let g = geometry(SEGMENTED, 16, 3, 4);
-    Script::new("003: column sums, 6.2.2", g, (16, 8), lines)
+    script("003: column sums, 6.2.2", g, (16, 8), lines)
 }

@@ -1,14 +1,13 @@
 //! Document 01's 'Steps on any tables' and 'Where a call stops': every call on tables of any length
 //! and content.
 
-use crate::call::{Answer, Call, EMPTY};
+use crate::binary::answer::Answer;
+use crate::binary::call::Call;
+use crate::binary::Tables;
+use crate::family::AnyCall;
 use crate::geometry::{Geometry, CASCADED, SEGMENTED};
-
-#[derive(Clone, Debug, PartialEq)]
-pub struct Tables {
-    pub store: Vec<u32>,
-    pub indicators: Vec<u64>,
-}
+use crate::lent::AnyTables;
+use crate::tables::{clear_bit, in_every_row, set_bit, EMPTY, MATCH_WORD};
 
 /// "The number is all that comes back, and every table and output is as before the call."
 pub fn step(g: &Geometry, tables: &mut Tables, call: &Call) -> Answer {
@@ -58,13 +57,7 @@ fn refusal(g: &Geometry, tables: &Tables, call: &Call) -> Option<u32> {
 }
 
 fn lengths_fit(g: &Geometry, tables: &Tables, call: &Call) -> bool {
-    let match_word_fits = match call {
-        Call::AllMatch { lent, .. } => lent.len() == g.match_words(),
-        _ => true,
-    };
-    tables.store.len() == g.depth as usize
-        && tables.indicators.len() == g.indicator_words()
-        && match_word_fits
+    tables.fit(g) && call.lent().is_none_or(|lent| lent.fits(g))
 }
 
 fn meets_false_set(g: &Geometry, tables: &Tables, call: &Call) -> bool {
@@ -82,12 +75,8 @@ fn meets_false_set(g: &Geometry, tables: &Tables, call: &Call) -> bool {
 
 /// "Clear makes every entry empty and every indicator word 0."
 fn clear(tables: &mut Tables) -> Answer {
-    for entry in &mut tables.store {
-        *entry = EMPTY;
-    }
-    for word in &mut tables.indicators {
-        *word = 0;
-    }
+    tables.store.fill(EMPTY);
+    tables.indicators.fill(0);
     Answer::Cleared
 }
 
@@ -186,14 +175,15 @@ fn all_match(g: &Geometry, tables: &Tables, key: u32) -> Answer {
             hits += 1;
         }
     }
-    Answer::Matches { matches, hits }
+    Answer::Matches {
+        matches: MATCH_WORD.table(&matches),
+        hits,
+    }
 }
 
-/// The bit of the set in the key's row, in kind 1 in the row of every stage. "Bits for sets C and
-/// above are spare: ... ignored when read."
+/// "Bits for sets C and above are spare: ... ignored when read."
 fn is_indicated(g: &Geometry, tables: &Tables, key: u32, set: usize) -> bool {
-    set < g.sets()
-        && (0..g.stages()).all(|stage| bit(&tables.indicators, g.row_start(key, stage), set))
+    set < g.sets() && in_every_row(g, &tables.indicators, key, set)
 }
 
 fn indicated_sets(g: &Geometry, tables: &Tables, key: u32) -> Vec<usize> {
@@ -206,23 +196,6 @@ fn equal_entries(g: &Geometry, tables: &Tables, set: usize, key: u32) -> Vec<u32
     g.addresses_of(set)
         .filter(|&address| tables.store[address as usize] == key)
         .collect()
-}
-
-/// "Bit b of word j, bit 0 worth 1, belongs to set 64 × j + b."
-fn bit(words: &[u64], row_start: usize, set: usize) -> bool {
-    words[row_start + set / 64] >> (set % 64) & 1 == 1
-}
-
-fn set_bit(words: &mut [u64], row_start: usize, set: usize) {
-    if !bit(words, row_start, set) {
-        words[row_start + set / 64] += 1 << (set % 64);
-    }
-}
-
-fn clear_bit(words: &mut [u64], row_start: usize, set: usize) {
-    if bit(words, row_start, set) {
-        words[row_start + set / 64] -= 1 << (set % 64);
-    }
 }
 
 fn entry_answer(stored: u32) -> Answer {

@@ -2,10 +2,10 @@
 
 use crate::coverage::Tally;
 use crate::geometry::{geometry, SEGMENTED};
-use crate::job::{Command, Job};
+use crate::jobs::job::{Command, Job};
+use crate::jobs::report::report;
 use crate::options::Options;
 use crate::reduce::{remove_runs, Fails};
-use crate::report::report;
 use std::fs;
 use std::io::{ErrorKind, Result as Written, Write};
 use std::path::Path;

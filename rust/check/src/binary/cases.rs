@@ -1,8 +1,10 @@
 //! The cases of document 01's 'Histories', with its numbers.
 
-use crate::call::Call;
+use crate::binary::call::Call;
+use crate::binary::lines::{
+    all, all_match, at, clear, erase, make, none, read, refused, script, write, Line, Script,
+};
 use crate::geometry::{geometry, Geometry, CASCADED, SEGMENTED, TRANSPOSED};
-use crate::script::{all, at, clear, erase, none, read, refused, write, Line, Script};
 
 /// "S means kind 2, D 8, P 2, W 2. K means kind 1, D 2, P 10, W 1."
 const S: Geometry = geometry(SEGMENTED, 8, 2, 2);
@@ -19,11 +21,11 @@ pub fn cases() -> Vec<Script> {
 }
 
 fn on_s(name: &'static str, lines: Vec<Line>) -> Script {
-    Script::new(name, S, (8, 4), lines)
+    script(name, S, (8, 4), lines)
 }
 
 fn on_k(name: &'static str, lines: Vec<Line>) -> Script {
-    Script::new(name, K, (2, 514), lines)
+    script(name, K, (2, 514), lines)
 }
 
 /// "P1: S, match 0: none, w 1, c 0."
@@ -72,7 +74,7 @@ fn p7() -> Script {
 /// "P8: kind 0, D 65, P 1, W 1, 64:=1, match 1: at 64, w 2, c 0."
 fn p8() -> Script {
     let lines = from_clear([write(64, 1, None)], [at(1, 64, 2, 0)]);
-    Script::new("P8", geometry(TRANSPOSED, 65, 1, 1), (65, 4), lines)
+    script("P8", geometry(TRANSPOSED, 65, 1, 1), (65, 4), lines)
 }
 
 /// "P9: S, erase 5: formerly empty."
@@ -82,10 +84,7 @@ fn p9() -> Script {
 
 /// "P10: S, word 1 of the indicators made 2 by hand, match 1: number 6."
 fn p10() -> Script {
-    let lines = from_clear(
-        [Line::Make(1, 2)],
-        [refused(Call::FirstMatch { key: 1 }, 6)],
-    );
+    let lines = from_clear([make(1, 2)], [refused(Call::FirstMatch { key: 1 }, 6)]);
     on_s("P10", lines)
 }
 
@@ -122,19 +121,19 @@ fn depth_limits() -> Vec<Script> {
     let deepest = |kind, set_width| geometry(kind, 4096, 1, set_width);
     let deeper = |kind, set_width| geometry(kind, 4097, 1, set_width);
     vec![
-        Script::new("D 4,096, kind 0", deepest(0, 1), (4096, 128), passes()),
-        Script::new("D 4,096, kind 1", deepest(1, 1), (4096, 128), passes()),
-        Script::new("D 4,096, kind 2", deepest(2, 64), (4096, 2), passes()),
-        Script::new("D 4,097, kind 0", deeper(0, 1), (4097, 130), refuses()),
-        Script::new("D 4,097, kind 1", deeper(1, 1), (4097, 130), refuses()),
-        Script::new("D 4,097, kind 2", deeper(2, 17), (4097, 8), refuses()),
+        script("D 4,096, kind 0", deepest(0, 1), (4096, 128), passes()),
+        script("D 4,096, kind 1", deepest(1, 1), (4096, 128), passes()),
+        script("D 4,096, kind 2", deepest(2, 64), (4096, 2), passes()),
+        script("D 4,097, kind 0", deeper(0, 1), (4097, 130), refuses()),
+        script("D 4,097, kind 1", deeper(1, 1), (4097, 130), refuses()),
+        script("D 4,097, kind 2", deeper(2, 17), (4097, 8), refuses()),
     ]
 }
 
 /// "K with W 2 gives 1."
 fn set_width_limit() -> Script {
     let k_with_w_2 = geometry(CASCADED, 2, 10, 2);
-    Script::new("K with W 2", k_with_w_2, (2, 514), every_call_refused(1, 1))
+    script("K with W 2", k_with_w_2, (2, 514), every_call_refused(1, 1))
 }
 
 /// "S, address 7 passes, 8 gives 3."
@@ -153,12 +152,11 @@ fn address_limits() -> Vec<Script> {
 
 /// "Pattern 3 passes, 4 gives 4."
 fn pattern_limits() -> Vec<Script> {
-    let lent = vec![9];
     let passes = [write(0, 3, None), at(3, 0, 1, 1), all(3, &[1], 1)];
     let refuses = [
         refused(write_call(0, 4), 4),
         refused(Call::FirstMatch { key: 4 }, 4),
-        refused(Call::AllMatch { key: 4, lent }, 4),
+        refused(all_match(4, &[9]), 4),
     ];
     vec![
         on_s("S, pattern 3", from_clear([], passes)),
@@ -173,14 +171,13 @@ fn write_call(address: u32, pattern: u32) -> Call {
 /// All six calls, which are good but for the geometry.
 fn every_call_refused(match_words: usize, number: u32) -> Vec<Line> {
     let (address, key) = (0, 0);
-    let lent = vec![9; match_words];
     let calls = [
         Call::Clear,
         write_call(0, 0),
         Call::Erase { address },
         Call::Read { address },
         Call::FirstMatch { key },
-        Call::AllMatch { key, lent },
+        all_match(key, &vec![9; match_words]),
     ];
     calls
         .into_iter()

@@ -1,17 +1,17 @@
 //! Document 01's report: what `camrun` prints for a job.
 
-use crate::array::Array;
-use crate::call::Answer;
-use crate::command_subjects;
+use crate::binary::answer::Answer;
+use crate::binary::array::Array;
+use crate::binary::subjects;
 use crate::coverage::Tally;
-use crate::job::{Command, Job};
-use crate::job_subjects;
-use crate::subjects;
+use crate::family::{AnyAnswer, AnyCall};
+use crate::jobs::job::{Command, Job};
+use crate::jobs::{command_subjects, file_subjects};
 use std::fmt::Write;
 
 /// The report, every line with its newline. What the job meets is counted on the way.
 pub fn report(job: &Job, tally: &mut Tally) -> String {
-    job_subjects::of_file(job, tally);
+    file_subjects::of_file(job, tally);
     let g = match job.accepted() {
         Ok(header) => header.geometry,
         Err(number) => return format!("job no {number}\n"),
@@ -38,16 +38,16 @@ fn answer(array: &mut Array, number: usize, command: &Command, tally: &mut Tally
         tally.count(
             &g,
             command.name(),
-            &answer,
+            answer.label(),
             command_subjects::of_8(&g, command),
         );
         return answer;
     };
-    let before = array.entries().to_vec();
+    let before = array.clone();
     let answer = array.call(&call);
-    let mut met = subjects::of_history(&g, &before, &call, &answer);
+    let mut met = subjects::of_history(&before, &call, &answer);
     met.extend(command_subjects::of_call(&g, number, &call, &answer));
-    tally.count(&g, call.name(), &answer, met);
+    tally.count(&g, call.name(), answer.label(), met);
     answer
 }
 
@@ -69,7 +69,7 @@ fn items(answer: &Answer) -> String {
         } => format!("none w {w} c {c}"),
         Answer::Matches { matches, hits } => {
             let mut text = format!("hits {hits}");
-            for word in matches {
+            for word in matches.iter() {
                 write!(text, " {word:016x}").expect("a string takes any text");
             }
             text

@@ -1,12 +1,13 @@
 //! What the commands of the random jobs are made to meet, by name, and how each is recognised.
 
-use crate::call::{Answer, Call};
-use crate::geometry::Geometry;
-use crate::job::Command;
-use crate::subjects::{
-    low_bytes, those, Subject, ADDRESS_AND_PATTERN, CLEARED_LATER, LATER_PLACE, LATER_WORD,
-    WORDS_OF_HITS,
+use crate::binary::answer::Answer;
+use crate::binary::call::Call;
+use crate::binary::subjects::{
+    ADDRESS_AND_PATTERN, CLEARED_LATER, LATER_PLACE, LATER_WORD, WORDS_OF_HITS,
 };
+use crate::geometry::Geometry;
+use crate::jobs::job::Command;
+use crate::subjects::{low_bytes, those, Subject};
 
 const OPERATION_0: Subject = "8: operation 0";
 const OPERATION_7: Subject = "8: operation 7";

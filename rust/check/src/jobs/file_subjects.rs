@@ -1,8 +1,8 @@
 //! What the files of the random jobs are made to meet, by name, and how each is recognised.
 
 use crate::coverage::Tally;
-use crate::job::{Header, Job, DEEPEST, HEADER, LONGEST_FILE, MOST_INDICATORS};
-use crate::jobs::MOST_COMMANDS;
+use crate::jobs::generate::MOST_COMMANDS;
+use crate::jobs::job::{Header, Job, DEEPEST, HEADER, LONGEST_FILE, MOST_INDICATORS};
 use crate::subjects::{alone, broken_rules, low_bytes, those, Subject};
 
 const DEPTH_9: Subject = "9 by D alone";

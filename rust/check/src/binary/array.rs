@@ -1,9 +1,12 @@
 //! Document 01's 'The plain array'. It knows the geometry, and nothing of tables.
 
-use crate::call::{Answer, Call};
+use crate::binary::answer::Answer;
+use crate::binary::call::Call;
 use crate::geometry::{Geometry, SEGMENTED};
+use crate::tables::MATCH_WORD;
 
 /// "Its state is D entries, each empty or a pattern."
+#[derive(Clone)]
 pub struct Array {
     geometry: Geometry,
     entries: Vec<Option<u32>>,
@@ -110,6 +113,9 @@ impl Array {
                 hits += 1;
             }
         }
-        Answer::Matches { matches, hits }
+        Answer::Matches {
+            matches: MATCH_WORD.table(&matches),
+            hits,
+        }
     }
 }

@@ -1,7 +1,9 @@
 //! Document 01's 'Job files': the fields of a job, and the stops of a whole file.
 
-use crate::call::Call;
+use crate::binary::call::Call;
+use crate::family::AnyCall;
 use crate::geometry::{geometry, Geometry};
+use crate::tables::MATCH_WORD;
 use std::fmt;
 use std::ops::Range;
 
@@ -109,7 +111,7 @@ impl Command {
             (2, address, 0) => Some(Call::Erase { address }),
             (3, 0, key) => Some(Call::FirstMatch { key }),
             (4, 0, key) => {
-                let lent = vec![0; g.match_words()];
+                let lent = MATCH_WORD.table(&vec![0; g.match_words()]);
                 Some(Call::AllMatch { key, lent })
             }
             (5, address, 0) => Some(Call::Read { address }),

@@ -1,11 +1,12 @@
 //! Random jobs: files of all sorts, with commands that get in one another's way.
 
-use crate::call::Call;
+use crate::binary::call::Call;
+use crate::binary::generate::random_call;
 use crate::geometry::{geometry, Geometry, CASCADED, SEGMENTED, TRANSPOSED};
-use crate::histories::random_call;
-use crate::job::{Command, Header, Job, COMMAND, HEADER, LONGEST_FILE};
+use crate::jobs::job::{Command, Header, Job, COMMAND, HEADER, LONGEST_FILE};
+use crate::pool::Pool;
 use crate::random::Random;
-use crate::shapes::{break_rule, random_geometry, Pool};
+use crate::shapes::{break_rule, random_geometry};
 
 /// As many commands as a file has room for.
 pub const MOST_COMMANDS: usize = (LONGEST_FILE - HEADER) / COMMAND;

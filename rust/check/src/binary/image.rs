@@ -1,10 +1,18 @@
 //! Document 01's 'Tables': the store and the indicators that belong to an array's entries.
 
-use crate::call::EMPTY;
+use crate::binary::Tables;
 use crate::geometry::Geometry;
+use crate::tables::{EMPTY, INDICATORS, STORE};
+
+pub fn tables(geometry: &Geometry, entries: &[Option<u32>]) -> Tables {
+    Tables {
+        store: STORE.table(&store(entries)),
+        indicators: INDICATORS.table(&indicators(geometry, entries)),
+    }
+}
 
 /// "An empty address holds 4,294,967,295", any other its pattern.
-pub fn store(entries: &[Option<u32>]) -> Vec<u32> {
+fn store(entries: &[Option<u32>]) -> Vec<u32> {
     entries.iter().map(|entry| entry.unwrap_or(EMPTY)).collect()
 }
 
@@ -14,7 +22,7 @@ pub fn store(entries: &[Option<u32>]) -> Vec<u32> {
 ///
 /// So every address marks the bits of what it holds, and no other bit is marked. "Bit b of word j,
 /// bit 0 worth 1, belongs to set 64 × j + b."
-pub fn indicators(geometry: &Geometry, entries: &[Option<u32>]) -> Vec<u64> {
+fn indicators(geometry: &Geometry, entries: &[Option<u32>]) -> Vec<u64> {
     let mut words = vec![0; geometry.indicator_words()];
     for (address, entry) in entries.iter().enumerate() {
         let Some(pattern) = *entry else { continue };

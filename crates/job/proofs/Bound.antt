@@ -23,14 +23,14 @@ use Rattle.machines.specs.Refusals.{firstRefusal}
 use Rattle.machines.proofs.Refusals.{Each, given-says}
 use Rattle.reference.specs.Array.{Array, emptied, entryAt, holding, Sound, counted, arrayRefusals, arrayAccepted, arrayOutcome, arrayStep}
 use Rattle.reference.proofs.Emptied.{emptied-sound}
-use Rattle.report.specs.Figures.{Bytes}
+use Rattle.figures.specs.Figures.{Bytes}
 use Rattle.report.specs.Lines.{answerLine, firstLine}
 use Rattle.report.proofs.Measures.{Small, answer-line-most, stop-line-most, first-line-most}
-use Rattle.job.specs.declared.Command.{Command}
-use Rattle.job.specs.Files.{headerOf, geometryOf, commandsFrom, commandsOf, geometryStops, fileStops, fileStop}
-use Rattle.job.specs.Decoding.{decoded}
+use Rattle.jobfile.specs.declared.Command.{Command}
+use Rattle.jobfile.specs.Files.{headerOf, geometryOf, commandsFrom, commandsOf, geometryStops, fileStops, fileStop}
+use Rattle.jobfile.specs.Decoding.{decoded}
+use Rattle.jobfile.proofs.Unstopped.{Unstopped, unstopped}
 use Rattle.job.specs.Output.{obeyed, arrayCommand, answers, answersOf, numbered, report, printed, output}
-use Rattle.job.proofs.Unstopped.{Unstopped, unstopped}
 use Rattle.job.proofs.Obeying.{command-sound}
 
 -- ---- answers

@@ -10,10 +10,11 @@ use Rattle.reference.specs.Entry.{holds}
 use Rattle.machines.specs.Refusals.{firstRefusal}
 use Rattle.reference.specs.Refusals.{badAddress, badPattern}
 use Rattle.reference.specs.Array.{emptied, counted, arrayRefusals, arrayAccepted, arrayOutcome, arrayStep}
-use Rattle.report.specs.Figures.{ascii, places, decimal, hexadecimal}
-use Rattle.report.specs.Lines.{ended, line, entryText, answerItems, answerLine, firstLine, stopLine}
-use Rattle.job.specs.Files.{field, headerOf, commandAt, commandsFrom, commandsOutside, badFile, tooLarge, geometryStops, fileStops}
-use Rattle.job.specs.Decoding.{decoded}
+use Rattle.figures.specs.Figures.{ascii, places, decimal, hexadecimal}
+use Rattle.answers.specs.Items.{ended, entryText, answerItems}
+use Rattle.report.specs.Lines.{line, answerLine, firstLine, stopLine}
+use Rattle.jobfile.specs.Files.{field, headerOf, commandAt, commandsFrom, commandsOutside, badFile, tooLarge, geometryStops, fileStops}
+use Rattle.jobfile.specs.Decoding.{decoded}
 use Rattle.job.specs.Output.{obeyed, arrayCommand, answers, numbered, report, printed, output}
 use Rattle.job.specs.Examples.{Example, bytesOf, linesOf, examples}
 

@@ -13,18 +13,18 @@ use Rattle.geometry.proofs.Facts.{facts}
 use Rattle.geometry.proofs.Places.{matches-least}
 use Rattle.reference.specs.Tables.{Tables}
 use Rattle.calls.specs.Answers.{tables}
-use Rattle.report.specs.Figures.{Bytes}
+use Rattle.figures.specs.Figures.{Bytes}
+use Rattle.figures.specs.Appended.{Appended}
 use Rattle.report.specs.Lines.{stopLine}
-use Rattle.report.specs.Appended.{Appended}
-use Rattle.job.specs.declared.Header.{Header}
-use Rattle.job.specs.declared.Stop.{Stop}
-use Rattle.job.specs.declared.Opened.{Opened}
-use Rattle.job.specs.declared.Opened.the-variants.{Job, Stopped}
-use Rattle.job.specs.Files.{headerOf, geometryOf, fileStops, fileStop}
+use Rattle.jobfile.specs.declared.Header.{Header}
+use Rattle.jobfile.specs.declared.Stop.{Stop}
+use Rattle.jobfile.specs.declared.Opened.{Opened}
+use Rattle.jobfile.specs.declared.Opened.the-variants.{Job, Stopped}
+use Rattle.jobfile.specs.Files.{headerOf, geometryOf, fileStops, fileStop}
+use Rattle.jobfile.specs.Read.{stopNumber, Opens}
+use Rattle.jobfile.proofs.Unstopped.{unstopped}
 use Rattle.job.specs.Output.{answersOf, printed, output}
 use Rattle.job.specs.Left.{matchesLeft, Ready, Runs, Ample, lent, over, leaves, Ran}
-use Rattle.job.specs.Read.{stopNumber, Opens}
-use Rattle.job.proofs.Unstopped.{unstopped}
 use Rattle.job.proofs.Bound.{output-short}
 
 -- ---- a stop

@@ -1,5 +1,3 @@
-pub mod Reading
-pub mod Unstopped
 pub mod Obeying
 pub mod Running
 pub mod Bound

@@ -1,6 +1,6 @@
 -- A command on the tables of an array agrees with the same command on the array: by `agrees` for its call.
 use Prim.Native.Nat.{ℕ}
-use mathlib.Core.Path.{_≡_, refl, sym}
+use mathlib.Core.Path.{_≡_, refl}
 use mathlib.Core.Bool.{Bool, true, false, cond}
 use mathlib.Core.List.{List}
 use mathlib.Core.Option.{Option, none, some, Option·map}
@@ -8,21 +8,15 @@ use lib.ListN.{length, replicate, length-replicate}
 use Rattle.geometry.specs.declared.Geometry.{Geometry}
 use Rattle.geometry.specs.Valid.{valid}
 use Rattle.geometry.specs.Sizes.{matchWords}
-use Rattle.reference.specs.Calls.{Call, refused, shape, matchesAfter}
+use Rattle.reference.specs.Calls.{Call, shape, matchesAfter}
 use Rattle.reference.specs.Array.{Array, Sound}
 use Rattle.reference.specs.Tables.{Tables}
 use Rattle.reference.specs.Image.{tablesOf}
 use Rattle.reference.proofs.Agreement.{Agrees, agrees}
-use Rattle.calls.specs.declared.Call as code
-use Rattle.calls.specs.declared.Answer.{Answer}
-use Rattle.calls.specs.Answers.{left, Performed}
-use Rattle.job.specs.declared.Command.{Command}
-use Rattle.job.specs.declared.Decoded.{Decoded}
-use Rattle.job.specs.declared.Decoded.the-variants.{Asks, Nothing}
-use Rattle.job.specs.Decoding.{decoded}
+use Rattle.jobfile.specs.declared.Command.{Command}
+use Rattle.jobfile.specs.Decoding.{decoded}
+use Rattle.commands.specs.Commands.{performed, commanded}
 use Rattle.job.specs.Output.{obeyed, arrayCommand}
-use Rattle.job.specs.Commands.{performed, commanded}
-use Rattle.job.specs.Read.{Decodes}
 
 map-cond : {A B : Type 0} (f : A → B) (b : Bool) (x y : Option A) → Option·map f (cond b x y) ≡ cond b (Option·map f x) (Option·map f y)
 map-cond f true x y = refl
@@ -54,18 +48,3 @@ command-matches g t m c = go (decoded m c)
     go : (d : Option (Call (List ℕ))) → performed g t m d .matches ≡ matchesAfter (performed g t m d .answer) m
     go none = refl
     go (some call) = refl
-
--- ---- what the code makes of a command
-
--- a command that asks for a call, which was performed
-pub asked : (g : Geometry) (t u : Tables) (m n : List ℕ) (c : Command) (call : code.Call) (r : Answer) (d : Decoded) → d ≡ Asks call
-    → Decodes d (λ m. decoded m c) → Performed g call r t u m n → commanded g t m c ≡ left r (u .store) (u .indicators) n
-unfolding commanded performed
-asked g t u m n c call r d is stands p =
-    rw (← stands m, is) (λ i. record { answer = sym (p .answer) i; tables = sym (p .tables-after) i; matches = sym (p .matches) i })
-
--- a command that asks for none
-pub unasked : (g : Geometry) (t : Tables) (m : List ℕ) (c : Command) (d : Decoded) → d ≡ Nothing
-    → Decodes d (λ m. decoded m c) → commanded g t m c ≡ record { answer = refused 8; tables = t; matches = m }
-unfolding commanded performed
-unasked g t m c d is stands = rw (← stands m, is)

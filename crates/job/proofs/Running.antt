@@ -19,13 +19,13 @@ use Rattle.reference.proofs.Limits.{lengths-pass}
 use Rattle.reference.proofs.Emptied.{emptied-sound}
 use Rattle.reference.proofs.Agreement.{Agrees}
 use Rattle.reference.proofs.History.{passed-empties}
-use Rattle.report.specs.Figures.{Bytes}
+use Rattle.figures.specs.Figures.{Bytes}
+use Rattle.figures.specs.Appended.{Appended}
+use Rattle.figures.proofs.Appending.{appended-none, same-length, appended-more, room-after}
 use Rattle.report.specs.Lines.{answerLine, firstLine}
-use Rattle.report.specs.Appended.{Appended}
-use Rattle.report.proofs.Appending.{appended-none, same-length, appended-more, room-after}
-use Rattle.job.specs.Files.{headerOf, geometryOf, commandAt, commandsFrom}
+use Rattle.jobfile.specs.Files.{headerOf, geometryOf, commandAt, commandsFrom}
+use Rattle.commands.specs.Commands.{commanded, Obeys}
 use Rattle.job.specs.Output.{arrayCommand, answers, answersOf, numbered, report}
-use Rattle.job.specs.Commands.{commanded, Obeys}
 use Rattle.job.specs.Left.{arrayLeft, jobArray, matchesLeft, Runs}
 use Rattle.job.proofs.Obeying.{command-agrees, command-matches}
 

@@ -5,7 +5,7 @@ use Prim.Native.Nat.{ℕ, _-_, _/_, _%_}
 use Prim.Native.String.{String}
 use mathlib.Core.List.{List, [], _∷_, _++_, map, foldr}
 use lib.ListN.{length, take, replicate}
-use Rattle.report.specs.Figures.{Bytes, ascii}
+use Rattle.figures.specs.Figures.{Bytes, ascii}
 
 pub record Example : Type 0 where
   pub file : Bytes

@@ -11,11 +11,11 @@ use Rattle.reference.specs.Calls.{Answer, matchesAfter}
 use Rattle.reference.specs.Array.{Array, emptied}
 use Rattle.reference.specs.Tables.{Tables}
 use Rattle.reference.specs.Image.{tablesOf}
-use Rattle.report.specs.Figures.{Bytes}
-use Rattle.report.specs.Appended.{Appended}
-use Rattle.job.specs.declared.Header.{Header}
-use Rattle.job.specs.declared.Command.{Command}
-use Rattle.job.specs.Files.{headerOf, geometryOf, commandsOf, fileStop}
+use Rattle.figures.specs.Figures.{Bytes}
+use Rattle.figures.specs.Appended.{Appended}
+use Rattle.jobfile.specs.declared.Header.{Header}
+use Rattle.jobfile.specs.declared.Command.{Command}
+use Rattle.jobfile.specs.Files.{headerOf, geometryOf, commandsOf, fileStop}
 use Rattle.job.specs.Output.{arrayCommand, answersOf, report, output}
 
 -- The array after some commands.

@@ -6,11 +6,11 @@ use Rattle.geometry.specs.declared.Geometry.{Geometry}
 use Rattle.geometry.specs.Sizes.{matchWords}
 use Rattle.reference.specs.Calls.{Call, Answer, refused}
 use Rattle.reference.specs.Array.{Array, emptied, ArrayOutcome, arrayStep}
-use Rattle.report.specs.Figures.{Bytes}
+use Rattle.figures.specs.Figures.{Bytes}
 use Rattle.report.specs.Lines.{firstLine, answerLine, stopLine}
-use Rattle.job.specs.declared.Command.{Command}
-use Rattle.job.specs.Files.{geometryOf, commandsOf, fileStop}
-use Rattle.job.specs.Decoding.{decoded}
+use Rattle.jobfile.specs.declared.Command.{Command}
+use Rattle.jobfile.specs.Files.{geometryOf, commandsOf, fileStop}
+use Rattle.jobfile.specs.Decoding.{decoded}
 
 -- "A command with another operation or a stray field stops with 8, tested before 3 and 4, and the run goes on."
 unfoldable pub obeyed : Geometry → Array → Option (Call ℕ) → ArrayOutcome

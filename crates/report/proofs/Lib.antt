@@ -1,3 +1,1 @@
-pub mod Appending
 pub mod Measures
-pub mod Places

@@ -1,3 +1,1 @@
-pub mod Figures
 pub mod Lines
-pub mod Appended

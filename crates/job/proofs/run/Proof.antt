@@ -2,7 +2,7 @@
 use native.Mathlib.Omega.{arith}
 use borrow.Author.Needs.{needs}
 use Rattle.io.proofs.Counting.{counts}
-use Rattle.report.proofs.Appending.{same-length}
+use Rattle.figures.proofs.Appending.{same-length}
 use Rattle.job.proofs.run.Statement.{statement}
 use Rattle.job.proofs.run.Tie as tie
 

@@ -6,9 +6,9 @@ use lib.ListN.{length}
 use borrow.Author.Needs.{needs}
 use Rattle.reference.specs.Steps.{Outcome}
 use Rattle.calls.specs.Answers.{tables}
-use Rattle.report.proofs.Appending as Appending
-use Rattle.job.specs.Files.{headerOf}
-use Rattle.job.proofs.Unstopped.{unstopped}
+use Rattle.figures.proofs.Appending as Appending
+use Rattle.jobfile.specs.Files.{headerOf}
+use Rattle.jobfile.proofs.Unstopped.{unstopped}
 use Rattle.job.proofs.Running.{Progress, first-room, progress-start, inside, room, progress-next, finished}
 use Rattle.job.proofs.run_job.Statement.{statement}
 use Rattle.job.proofs.run_job.Tie as tie

@@ -2,8 +2,8 @@
 use native.Mathlib.Omega.{arith}
 use lib.ListN.{length-append}
 use borrow.Author.Needs.{needs}
+use Rattle.figures.proofs.Appending.{same-length, appended-more}
 use Rattle.report.specs.Lines.{line, answerLine}
-use Rattle.report.proofs.Appending.{same-length, appended-more}
 use Rattle.report.proofs.put_answer.Statement.{statement}
 use Rattle.report.proofs.put_answer.Tie as tie
 

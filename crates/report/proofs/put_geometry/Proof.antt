@@ -2,9 +2,10 @@
 use native.Mathlib.Omega.{arith}
 use lib.ListN.{length-append}
 use borrow.Author.Needs.{needs}
-use Rattle.report.specs.Figures.{ascii}
-use Rattle.report.specs.Lines.{ended, line, firstLine}
-use Rattle.report.proofs.Appending.{same-length, appended-more}
+use Rattle.figures.specs.Figures.{ascii}
+use Rattle.figures.proofs.Appending.{same-length, appended-more}
+use Rattle.answers.specs.Items.{ended}
+use Rattle.report.specs.Lines.{line, firstLine}
 use Rattle.report.proofs.put_geometry.Statement.{statement}
 use Rattle.report.proofs.put_geometry.Tie as tie
 

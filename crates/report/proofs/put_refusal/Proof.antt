@@ -2,9 +2,10 @@
 use native.Mathlib.Omega.{arith}
 use lib.ListN.{length-append}
 use borrow.Author.Needs.{needs}
-use Rattle.report.specs.Figures.{ascii}
-use Rattle.report.specs.Lines.{ended, line, answerItems, answerLine}
-use Rattle.report.proofs.Appending.{same-length, appended-more}
+use Rattle.figures.specs.Figures.{ascii}
+use Rattle.figures.proofs.Appending.{same-length, appended-more}
+use Rattle.answers.specs.Items.{ended, answerItems}
+use Rattle.report.specs.Lines.{line, answerLine}
 use Rattle.report.proofs.put_refusal.Statement.{statement}
 use Rattle.report.proofs.put_refusal.Tie as tie
 

@@ -1,7 +1,8 @@
 -- `report::put_stop` meets its contract: the line is one name, the number and a newline, by computation.
 use borrow.Author.Needs.{needs}
-use Rattle.report.specs.Figures.{ascii}
-use Rattle.report.specs.Lines.{ended, line, stopLine}
+use Rattle.figures.specs.Figures.{ascii}
+use Rattle.answers.specs.Items.{ended}
+use Rattle.report.specs.Lines.{line, stopLine}
 use Rattle.report.proofs.put_stop.Statement.{statement}
 use Rattle.report.proofs.put_stop.Tie as tie
 

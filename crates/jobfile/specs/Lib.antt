@@ -1,0 +1,4 @@
+pub mod Files
+pub mod Decoding
+pub mod Read
+pub mod Examples

@@ -12,6 +12,7 @@ use lib.ListN.{length, length-append}
 use Rattle.words.specs.Rules.{lowest}
 use Rattle.words.proofs.Rules.{count-most, LowestIs, at-first, at-none, lowest-is}
 use Rattle.words.proofs.Bits.{length-bitWords}
+use Rattle.machines.specs.Machine as machine
 use Rattle.geometry.specs.declared.Geometry.{Geometry}
 use Rattle.geometry.specs.Valid.{segmented, valid}
 use Rattle.geometry.specs.Sizes.{matchWords, setOf, offsetOf}
@@ -96,7 +97,7 @@ module _ (g : Geometry) (ok : valid g ≡ true) (shallow : g .depth ≤ 1024) wh
       first-line-most g (omega (arith, kind-most g ok)) (omega arith) (omega (arith, f .width-most)) (omega (arith, f .set-most))
 
   numbered-most : (k : ℕ) (es : Array) → Sound g es → (cs : List Command) → k + length cs ≤ 10 ^ 4 → length (numbered k (answers g es cs)) ≤ 287 * length cs
-  unfolding numbered answers
+  unfolding numbered machine.run
   numbered-most k es sound [] h = omega arith
   numbered-most k es sound (c ∷ cs) h =
       let x = arrayCommand g es c in

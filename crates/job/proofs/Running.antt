@@ -6,6 +6,7 @@ use mathlib.Core.Bool.{true}
 use mathlib.Core.List.{List, [], _++_, append-assoc, append-nil}
 use native.Mathlib.Omega.{arith}
 use lib.ListN.{length, length-append}
+use Rattle.machines.specs.Machine as machine
 use Rattle.geometry.specs.declared.Geometry.{Geometry}
 use Rattle.geometry.specs.Valid.{valid}
 use Rattle.geometry.specs.Sizes.{matchWords}
@@ -103,7 +104,7 @@ module _ {file : Bytes} {lent : List ℕ} {out₀ out : Bytes} {t : Tables} {m :
 
     -- its line, and the lines after it
     line-next : p .done ++ answerLine k (next .answer) ++ numbered (k + 1) (answers g (next .array) (commandsFrom file (p .left - 1) (from + 12))) ≡ allLines file
-    unfolding commandsFrom answers numbered
+    unfolding commandsFrom machine.run numbered
     line-next = append-assoc (p .done) (answerLine k (next .answer)) _ ∙ (rw one-left at (p .to-print))
 
     -- there is room for its line where there is room for the report
@@ -119,7 +120,7 @@ module _ {file : Bytes} {lent : List ℕ} {out₀ out : Bytes} {t : Tables} {m :
 
     pub progress-next : {out' : Bytes} {t' : Tables} {m' : List ℕ} {r : ℕ} → Obeys (commanded g t m (commandAt file from)) k t' m' out out' at r
         → length m' ≡ length m → Progress file lent out₀ at₀ t' m' out' r (from + 12) (k + 1)
-    unfolding commandsFrom answers numbered arrayLeft matchesLeft
+    unfolding commandsFrom machine.run machine.after numbered matchesLeft
     progress-next {out'} {t'} {m'} {r} o same = record {
       left = p .left - 1;
       array = next .array;
@@ -140,7 +141,7 @@ module _ {file : Bytes} {lent : List ℕ} {out₀ out : Bytes} {t : Tables} {m :
   -- ---- where none is left
 
   pub finished : {entry : Bytes} → Appended entry out₀ 0 at₀ (firstLine g) → headerOf file .commands ≤ k → Runs file t lent m entry out at
-  unfolding commandsFrom answers numbered arrayLeft matchesLeft report
+  unfolding commandsFrom machine.run machine.after numbered matchesLeft report
   finished first none-left =
       let zero-left : p .left ≡ 0 = omega (arith, p .counted) in
       let all : p .done ≡ allLines file = sym (append-nil (p .done)) ∙ (rw zero-left at (p .to-print)) in

@@ -4,6 +4,7 @@ use mathlib.Core.Path.{_≡_}
 use mathlib.Core.List.{List, [], _∷_, _++_}
 use mathlib.Core.Option.{Option, none, some}
 use lib.ListN.{length, take, drop}
+use Rattle.machines.specs.Machine.{after}
 use Rattle.geometry.specs.declared.Geometry.{Geometry}
 use Rattle.geometry.specs.Sizes.{matchWords}
 use Rattle.geometry.specs.Stages.{indicatorWords}
@@ -16,12 +17,11 @@ use Rattle.figures.specs.Appended.{Appended}
 use Rattle.jobfile.specs.declared.Header.{Header}
 use Rattle.jobfile.specs.declared.Command.{Command}
 use Rattle.jobfile.specs.Files.{headerOf, geometryOf, commandsOf, fileStop}
-use Rattle.job.specs.Output.{arrayCommand, answersOf, report, output}
+use Rattle.job.specs.Output.{onCommands, answersOf, report, output}
 
 -- The array after some commands.
-unfoldable pub arrayLeft : Geometry → Array → List Command → Array
-arrayLeft g es [] = es
-arrayLeft g es (c ∷ cs) = arrayLeft g (arrayCommand g es c .array) cs
+abbrev pub arrayLeft : Geometry → Array → List Command → Array
+arrayLeft g = after (onCommands g)
 
 abbrev pub jobArray : Bytes → Array
 jobArray file = arrayLeft (geometryOf file) (emptied (geometryOf file)) (commandsOf file)

@@ -1,7 +1,8 @@
 -- What a job prints, by the plain array alone.
 use Prim.Native.Nat.{ℕ, _+_}
-use mathlib.Core.List.{List, [], _∷_, _++_}
+use mathlib.Core.List.{List, [], _∷_, _++_, map}
 use mathlib.Core.Option.{Option, none, some}
+use Rattle.machines.specs.Machine.{Machine, run}
 use Rattle.geometry.specs.declared.Geometry.{Geometry}
 use Rattle.geometry.specs.Sizes.{matchWords}
 use Rattle.reference.specs.Calls.{Call, Answer, refused}
@@ -21,9 +22,12 @@ obeyed g es (some call) = arrayStep g es call
 unfoldable pub arrayCommand : Geometry → Array → Command → ArrayOutcome
 arrayCommand g es c = obeyed g es (decoded (matchWords g) c)
 
-unfoldable pub answers : Geometry → Array → List Command → List Answer
-answers g es [] = []
-answers g es (c ∷ cs) = arrayCommand g es c .answer ∷ answers g (arrayCommand g es c .array) cs
+-- The commands of a job, run on the plain array.
+abbrev pub onCommands : Geometry → Machine Array Command ArrayOutcome
+onCommands g = record { step = arrayCommand g; state = λ o. o .array }
+
+abbrev pub answers : Geometry → Array → List Command → List Answer
+answers g es cs = map (λ (o : ArrayOutcome). o .answer) (run (onCommands g) es cs)
 
 -- "Each other line starts with the command's number, counted from 0": the lines from number k on.
 unfoldable pub numbered : (k : ℕ) → List Answer → Bytes

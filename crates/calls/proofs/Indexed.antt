@@ -2,13 +2,13 @@
 use Prim.Native.Nat.{ℕ, _+_, _*_, _<_}
 use mathlib.Core.Path.{_≡_}
 use Rattle.geometry.specs.declared.Geometry.{Geometry}
-use Rattle.geometry.specs.declared.Sizes.{Sizes}
 use Rattle.geometry.specs.Sizes.{rowWords}
 use Rattle.geometry.specs.Stages.{stage, rowOf}
 use Rattle.geometry.proofs.Facts.{facts}
 use Rattle.geometry.proofs.Places.{place-lt}
 use Rattle.geometry.proofs.Stages.{stage-lt, row-lt}
-use Rattle.calls.specs.Passed.{Lent}
+use Rattle.sizes.specs.declared.Sizes.{Sizes}
+use Rattle.checks.specs.Passed.{Lent}
 
 -- word j of a pattern's row in stage k is a word of the indicators
 pub word-within : (g : Geometry) (s : Sizes) (store indicators : ℕ) → Lent g s store indicators → (p k r j : ℕ) → k < s .stages → r ≡ rowOf g p k

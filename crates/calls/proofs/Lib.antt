@@ -1,4 +1,3 @@
 pub mod Tested
 pub mod Indexed
-pub mod Shown
 pub mod Examples

@@ -5,12 +5,12 @@ use mathlib.Core.Bool.{cond, not, _||_}
 use mathlib.Core.List.{List}
 use lib.Dec.{eqb, ltb}
 use Rattle.geometry.specs.declared.Geometry.{Geometry}
-use Rattle.geometry.specs.declared.Sizes.{Sizes}
+use Rattle.sizes.specs.declared.Sizes.{Sizes}
+use Rattle.checks.specs.Passed.{Sized}
 use Rattle.reference.specs.Entry.{empty, pattern, emptyWord, entryOf}
 use Rattle.reference.specs.Tables.{storeWord, storeEntry}
 use Rattle.reference.specs.Steps.{badEntry}
 use Rattle.calls.specs.Answers.{tables}
-use Rattle.calls.specs.Passed.{Sized}
 
 -- w is the word that the store has at address a
 module _ {g : Geometry} {z : Sizes} (f : Sized g z) (s i : List ℕ) (a w : ℕ) (is : w ≡ storeWord (tables s i) a) where

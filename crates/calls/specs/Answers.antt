@@ -3,7 +3,7 @@ use Prim.Native.Nat.{ℕ}
 use mathlib.Core.Path.{_≡_}
 use mathlib.Core.List.{List}
 use Rattle.geometry.specs.declared.Geometry.{Geometry}
-use Rattle.geometry.specs.Checks.{numberOf}
+use Rattle.checks.specs.Checks.{numberOf}
 use Rattle.reference.specs.Entry as entries
 use Rattle.reference.specs.Entry.{empty, pattern}
 use Rattle.reference.specs.Calls.{clear, write, erase, read, firstMatch, allMatch, refused, cleared, held, at, none, matched, matchesAfter}

@@ -1,5 +1,5 @@
 // A call, the answer to it and the entries in it, as the code has them; and entries as words of the store.
-use geometry::Refusal;
+use checks::Refusal;
 use places::Address;
 ghost use mathlib.Core.Path.{_≡_};
 ghost use mathlib.Core.Bool.{cond, _||_};

@@ -3,10 +3,10 @@
 // set is one of the geometry's follows from the joined word, which has no bit of padding.
 use geometry::Geometry;
 use geometry::SEGMENTED;
-use geometry::Sizes;
 use places::Offset;
 use places::RowWord;
 use places::SetIndex;
+use sizes::Sizes;
 ghost use Prim.Native.Nat.{_+_, _*_, _<_};
 ghost use mathlib.Core.Path.{_≡_};
 ghost use mathlib.Core.Bool.{true, _&&_};
@@ -17,9 +17,9 @@ ghost use Rattle.words.specs.Rules.{any};
 ghost use Rattle.words.specs.Bits.{bit};
 ghost use Rattle.geometry.specs.Valid.{valid};
 ghost use Rattle.geometry.specs.Sizes.{sets, matchWords, setOf};
+ghost use Rattle.checks.specs.Passed.{Lent};
 ghost use Rattle.reference.specs.Search.{isFalse, inSet, anyIsFalse, chosen, taken};
 ghost use Rattle.calls.specs.Answers.{tables};
-ghost use Rattle.calls.specs.Passed.{Lent};
 ghost use Rattle.search.specs.Rows.{InSets};
 ghost use Rattle.collect.specs.Marks.{marked, inWord};
 

@@ -2,6 +2,4 @@ pub mod Facts
 pub mod Places
 pub mod Stages
 pub mod Bounds
-pub mod Conjunction
-pub mod Acceptance
 pub mod Boundaries

@@ -1,4 +1,3 @@
 pub mod Valid
 pub mod Sizes
 pub mod Stages
-pub mod Checks

@@ -1,7 +1,7 @@
 -- The stages of a pattern (document 01: slices) and the rows that a pattern has. Rows are numbered through all stages,
 -- row r of stage k being 512 * k + r, so word j of a row stands at its number times the words of a row, plus j.
 use Prim.Native.Nat.{ℕ, _+_, _-_, _*_, _/_, _%_, _^_}
-use mathlib.Core.Bool.{cond}
+use mathlib.Core.Bool.{Bool, cond, _&&_}
 use mathlib.Core.List.{List}
 use lib.Dec.{eqb, ltb}
 use Rattle.words.specs.Rules.{tabulate}
@@ -36,3 +36,7 @@ rows g = 512 * (stages g - 1) + 2 ^ stageWidth g (stages g - 1)
 -- The words of the indicators.
 unfoldable pub indicatorWords : Geometry → ℕ
 indicatorWords g = rowWords g * rows g
+
+-- "store not D, indicators not R × all rows" is where this is false.
+abbrev pub tablesFit : Geometry → (store indicators : ℕ) → Bool
+tablesFit g store indicators = eqb store (g .depth) && eqb indicators (indicatorWords g)

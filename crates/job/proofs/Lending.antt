@@ -5,10 +5,10 @@ use mathlib.Core.List.{List, _++_}
 use mathlib.Core.Option.{none}
 use native.Mathlib.Omega.{arith}
 use lib.ListN.{length, take, drop}
-use Rattle.geometry.specs.declared.Sizes.{Sizes}
+use Rattle.sizes.specs.declared.Sizes.{Sizes}
 use Rattle.geometry.specs.Sizes.{matchWords}
 use Rattle.geometry.specs.Stages.{indicatorWords}
-use Rattle.geometry.specs.Checks.{sizesOf}
+use Rattle.sizes.specs.SizesOf.{sizesOf}
 use Rattle.geometry.proofs.Facts.{facts}
 use Rattle.geometry.proofs.Places.{matches-least}
 use Rattle.reference.specs.Tables.{Tables}

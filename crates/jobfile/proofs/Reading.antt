@@ -8,9 +8,9 @@ use mathlib.Core.Option.{Option, none, some}
 use lib.Dec.{ltb}
 use borrow.Author.Tests.{ne-eqb}
 use Rattle.geometry.specs.declared.Geometry.{Geometry}
-use Rattle.geometry.specs.declared.Sizes.{Sizes}
+use Rattle.sizes.specs.declared.Sizes.{Sizes}
 use Rattle.geometry.specs.Valid.{valid}
-use Rattle.geometry.specs.Checks.{sizesOf}
+use Rattle.sizes.specs.SizesOf.{sizesOf}
 use Rattle.reference.specs.Calls.{Call}
 use Rattle.machines.specs.Refusals.{firstRefusal}
 use Rattle.figures.specs.Figures.{Bytes}

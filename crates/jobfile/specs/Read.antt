@@ -3,7 +3,7 @@ use Prim.Native.Nat.{ℕ}
 use mathlib.Core.Path.{_≡_}
 use mathlib.Core.List.{List}
 use mathlib.Core.Option.{Option, none, some}
-use Rattle.geometry.specs.Checks.{sizesOf}
+use Rattle.sizes.specs.SizesOf.{sizesOf}
 use Rattle.reference.specs.Calls as calls
 use Rattle.machines.specs.Refusals.{RefusalRow, firstRefusal}
 use Rattle.calls.specs.Answers.{callFor}

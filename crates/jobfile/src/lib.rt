@@ -1,9 +1,9 @@
 // Job files: their header and commands, what stops a whole file, and the call that a command asks for.
 use calls::Call;
-use geometry::Checked;
+use checks::Checked;
 use geometry::Geometry;
-use geometry::Sizes;
 use places::Address;
+use sizes::Sizes;
 ghost use Prim.Native.Nat.{_+_, _≤_};
 ghost use mathlib.Core.Path.{_≡_};
 ghost use mathlib.Core.Option.{some};
@@ -114,7 +114,7 @@ fn is_outside(header: Header, length: usize) -> bool
 fn size(header: Header) -> Opened
     ensures { λ r. ⌜ Opens (geometryStops (header .geometry)) header r ⌝ }
 {
-    let checked = header.geometry.check();
+    let checked = checks::geometry(header.geometry);
     match checked {
         Checked::Refused(_) => Opened::Stopped(Stop::BadGeometry),
         Checked::Accepted(sizes) => {

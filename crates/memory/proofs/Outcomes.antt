@@ -1,39 +1,44 @@
 -- The ways a call ends, as outcomes of its step: refused, or what is left of it where no row is left.
 use Prim.Native.Nat.{ℕ}
-use mathlib.Core.Path.{_≡_, refl, sym}
+use mathlib.Core.Path.{_≡_, refl, sym, ap}
 use mathlib.Core.Bool.{Bool, true, false, cond}
 use mathlib.Core.List.{List, [], _∷_}
 use lib.ListN.{length, replicate}
 use Rattle.words.specs.Bits.{totalOnes}
+use Rattle.machines.specs.Refusals.{RefusalRow, _given-when_, firstRefusal}
 use Rattle.geometry.specs.declared.Geometry.{Geometry}
-use Rattle.geometry.specs.declared.Sizes.{Sizes}
-use Rattle.geometry.specs.declared.Refusal.{Refusal}
-use Rattle.geometry.specs.declared.Refusal.the-variants.{BadEntry, FalseSet}
-use Rattle.geometry.specs.declared.Checked.{Checked}
-use Rattle.geometry.specs.declared.Checked.the-variants as check
 use Rattle.geometry.specs.Sizes.{matchWords}
+use Rattle.sizes.specs.declared.Sizes.{Sizes}
+use Rattle.checks.specs.declared.Refusal.{Refusal}
+use Rattle.checks.specs.declared.Refusal.the-variants.{BadEntry, FalseSet}
+use Rattle.checks.specs.declared.Checked.{Checked}
+use Rattle.checks.specs.declared.Checked.the-variants as check
+use Rattle.checks.specs.Passed.{Lent}
+use Rattle.checks.proofs.Rows.{Decides}
 use Rattle.reference.specs.Entry.{Entry, emptyWord}
 use Rattle.reference.specs.Calls.{Call, clear, read, firstMatch, allMatch, refused, held, lent}
-use Rattle.machines.specs.Refusals.{RefusalRow, _given-when_, firstRefusal}
 use Rattle.reference.specs.Tables.{Tables, storeEntry}
 use Rattle.reference.specs.Update.{replaced}
 use Rattle.reference.specs.Search.{Found, hit, nothing, falseSet, isFalse, answerOf, firstFound, anyIsFalse, taken, takenWords}
-use Rattle.reference.specs.Steps.{badEntry, accepted, clearTables, outcome, step}
+use Rattle.reference.specs.Steps.{badEntry, accepted, clearTables, refusals, outcome, step}
 use Rattle.calls.specs.declared.Entry as code
 use Rattle.calls.specs.declared.Answer.{Answer}
 use Rattle.calls.specs.declared.Answer.the-variants.{Refused, Cleared, Held, Matched}
 use Rattle.calls.specs.Answers.{entryFor, answerFor, tables, left}
-use Rattle.calls.specs.Passed.{Lent}
 use Rattle.update.specs.Replacing.{replacing}
 use Rattle.collect.specs.Marks.{marked}
 use Rattle.collect.proofs.Marking.{marked-zeros}
-use Rattle.memory.proofs.Decided.{Decides}
 
--- A refusal gives its number alone.
-pub refused-left : {g : Geometry} {s i : List ℕ} {c : Call (List ℕ)} {x : Checked} {rest : List RefusalRow} {why : Refusal}
-    → Decides g (tables s i) c x rest → x ≡ check.Refused why → left (Refused why) s i (lent c) ≡ step g (tables s i) c
-unfolding outcome
-refused-left d e = sym (d .rows .stops _ e)
+-- What the checks decide of a call's table decides its step: the number of a refusal alone, or the rows that are left.
+module _ (g : Geometry) (s i : List ℕ) (c : Call (List ℕ)) {x : Checked} {rest : List RefusalRow} {Shown : Sizes → Type 0}
+    (d : Decides (refusals g (tables s i) c) x rest Shown) where
+  pub refused-left : {why : Refusal} → x ≡ check.Refused why → left (Refused why) s i (lent c) ≡ step g (tables s i) c
+  unfolding outcome step
+  refused-left e = sym (ap (outcome g (tables s i) c) (d .stops _ e))
+
+  pub rest-left : {z : Sizes} → x ≡ check.Accepted z → outcome g (tables s i) c (firstRefusal rest) ≡ step g (tables s i) c
+  unfolding step
+  rest-left e = sym (ap (outcome g (tables s i) c) (d .passes _ e))
 
 -- Clear: tables filled to their lengths.
 pub cleared-left : (g : Geometry) (t : Tables) (z : Sizes) (n m : ℕ) → Lent g z n m

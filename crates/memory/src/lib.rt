@@ -3,9 +3,9 @@
 use calls::Answer;
 use calls::Call;
 use calls::Entry;
-use geometry::Checked;
+use checks::Checked;
+use checks::Refusal;
 use geometry::Geometry;
-use geometry::Refusal;
 use places::Address;
 use places::SetIndex;
 ghost use mathlib.Core.Path.{_≡_};
@@ -19,7 +19,7 @@ ghost use Rattle.memory.specs.Lines.{HandsBack};
 pub fn clear(g: Geometry, store: &mut [u32], indicators: &mut [u64]) -> Answer
     ensures { λ r. ⌜ left r (now (store .exit)) (now (indicators .exit)) [] ≡ step g (tables (now (store .entry)) (now (indicators .entry))) clear ⌝ }
 {
-    let checked = g.check_tables(store.len(), indicators.len());
+    let checked = checks::tables(g, store.len(), indicators.len());
     match checked {
         Checked::Accepted(_) => {
             calls::empty_all(store);
@@ -40,7 +40,7 @@ pub fn write(
 ) -> Answer
     ensures { λ r. ⌜ left r (now (store .exit)) (now (indicators .exit)) [] ≡ step g (tables (now (store .entry)) (now (indicators .entry))) (write (address .0) pattern) ⌝ }
 {
-    let checked = g.check_tables(store.len(), indicators.len())
+    let checked = checks::tables(g, store.len(), indicators.len())
         .and_row(Refusal::BadAddress, address.is_outside(g))
         .and_pattern(pattern);
     match checked {
@@ -60,8 +60,10 @@ pub fn write(
 pub fn erase(g: Geometry, store: &mut [u32], indicators: &mut [u64], address: Address) -> Answer
     ensures { λ r. ⌜ left r (now (store .exit)) (now (indicators .exit)) [] ≡ step g (tables (now (store .entry)) (now (indicators .entry))) (erase (address .0)) ⌝ }
 {
-    let checked = g.check_tables(store.len(), indicators.len())
-        .and_row(Refusal::BadAddress, address.is_outside(g));
+    let checked = checks::tables(g, store.len(), indicators.len()).and_row(
+        Refusal::BadAddress,
+        address.is_outside(g),
+    );
     match checked {
         Checked::Accepted(sizes) => update::replace(
             g,
@@ -79,8 +81,10 @@ pub fn erase(g: Geometry, store: &mut [u32], indicators: &mut [u64], address: Ad
 pub fn read(g: Geometry, store: &[u32], indicators: &[u64], address: Address) -> Answer
     ensures { λ r. ⌜ left r (now (store .entry)) (now (indicators .entry)) [] ≡ step g (tables (now (store .entry)) (now (indicators .entry))) (read (address .0)) ⌝ }
 {
-    let checked = g.check_tables(store.len(), indicators.len())
-        .and_row(Refusal::BadAddress, address.is_outside(g));
+    let checked = checks::tables(g, store.len(), indicators.len()).and_row(
+        Refusal::BadAddress,
+        address.is_outside(g),
+    );
     match checked {
         Checked::Accepted(sizes) => {
             let word = address.word(store);
@@ -98,8 +102,7 @@ pub fn read(g: Geometry, store: &[u32], indicators: &[u64], address: Address) ->
 pub fn first_match(g: Geometry, store: &[u32], indicators: &[u64], key: u32) -> Answer
     ensures { λ r. ⌜ left r (now (store .entry)) (now (indicators .entry)) [] ≡ step g (tables (now (store .entry)) (now (indicators .entry))) (firstMatch key) ⌝ }
 {
-    let checked = g.check_tables(store.len(), indicators.len())
-        .and_pattern(key);
+    let checked = checks::tables(g, store.len(), indicators.len()).and_pattern(key);
     match checked {
         Checked::Accepted(sizes) => search::first(g, sizes, store, indicators, key),
         Checked::Refused(why) => Answer::Refused(why),
@@ -117,8 +120,7 @@ pub fn all_match(
 ) -> Answer
     ensures { λ r. ⌜ left r (now (store .entry)) (now (indicators .entry)) (now (matches .exit)) ≡ step g (tables (now (store .entry)) (now (indicators .entry))) (allMatch key (now (matches .entry))) ⌝ }
 {
-    let checked = g.check_matches(store.len(), indicators.len(), matches.len())
-        .and_pattern(key);
+    let checked = checks::matches(g, store.len(), indicators.len(), matches.len()).and_pattern(key);
     match checked {
         Checked::Accepted(sizes) => {
             if collect::any_is_false(g, sizes, store, indicators, key) {
@@ -138,7 +140,7 @@ pub fn all_match(
 pub fn line(g: Geometry, store: &[u32], set: SetIndex) -> &[u32]
     ensures { λ r. ⌜ HandsBack g (store .entry) r (set .0) ⌝ }
 {
-    let checked = g.check();
+    let checked = checks::geometry(g);
     match checked {
         Checked::Accepted(sizes) => {
             if store.len() == g.depth as usize && !set.is_outside(sizes) {

@@ -4,7 +4,7 @@
 // (`Address::new`, `number`), and a set takes a caller's number for the line (`SetIndex::from_caller`); tests/types_apart says
 // which files may use these. What no type tells apart are the words of a row and those of a match word.
 use geometry::Geometry;
-use geometry::Sizes;
+use sizes::Sizes;
 ghost use Prim.Native.Nat.{_+_, _*_, _/_, _%_, _<_};
 ghost use mathlib.Core.Path.{_≡_};
 ghost use mathlib.Core.Bool.{true};

@@ -10,8 +10,7 @@ use Rattle.words.specs.Bits.{totalOnes}
 use Rattle.geometry.specs.declared.Geometry.{Geometry}
 use Rattle.geometry.specs.Valid.{valid}
 use Rattle.geometry.specs.Sizes.{patterns, matchWords}
-use Rattle.geometry.specs.Stages.{indicatorWords}
-use Rattle.geometry.specs.Checks.{tablesFit}
+use Rattle.geometry.specs.Stages.{indicatorWords, tablesFit}
 use Rattle.reference.specs.Entry.{empty, pattern, emptyWord}
 use Rattle.reference.specs.Calls.{Call, clear, write, erase, read, firstMatch, allMatch, Answer, refused, cleared, held, matched, lent}
 use Rattle.machines.specs.Refusals.{RefusalRow, _given-when_, firstRefusal}

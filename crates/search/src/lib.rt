@@ -2,22 +2,22 @@
 // the call has shown: a valid geometry and its sizes, and tables of their lengths. The loops over row words show that a word is
 // one of the row.
 use calls::Answer;
+use checks::Refusal;
 use geometry::Geometry;
-use geometry::Refusal;
 use geometry::SEGMENTED;
-use geometry::Sizes;
 use places::Address;
 use places::Offset;
 use places::RowWord;
 use places::SetIndex;
+use sizes::Sizes;
 ghost use Prim.Native.Nat.{_<_};
 ghost use mathlib.Core.Path.{_≡_};
 ghost use mathlib.Core.List.{[]};
 ghost use lib.ListN.{length};
 ghost use Rattle.geometry.specs.Sizes.{rowWords};
+ghost use Rattle.checks.specs.Passed.{Lent};
 ghost use Rattle.reference.specs.Search.{joined, firstFound, answerOf};
 ghost use Rattle.calls.specs.Answers.{answerFor, tables};
-ghost use Rattle.calls.specs.Passed.{Lent};
 
 // A word of the key's rows, joined with and; padding bits are dropped.
 pub fn joined(g: Geometry, sizes: Sizes, indicators: &[u64], key: u32, j: RowWord) -> u64
@@ -27,7 +27,7 @@ pub fn joined(g: Geometry, sizes: Sizes, indicators: &[u64], key: u32, j: RowWor
     let mut word = j.mask(sizes);
     let mut k = 0;
     while k < sizes.stages {
-        let row = g.row(key, k);
+        let row = sizes::row(g, key, k);
         word = j.read(indicators, row, sizes) & word;
         k += 1;
     }

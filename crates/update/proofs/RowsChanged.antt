@@ -13,13 +13,14 @@ use Rattle.words.specs.Bits.{setBit, clearBit, changeBit}
 use Rattle.words.proofs.Rules.{any-true, any-false}
 use Rattle.words.proofs.Bits.{length-changeBit}
 use Rattle.geometry.specs.declared.Geometry.{Geometry}
-use Rattle.geometry.specs.declared.Sizes.{Sizes}
 use Rattle.geometry.specs.Valid.{valid}
 use Rattle.geometry.specs.Sizes.{sets, setOf, addressOf, setLength}
 use Rattle.geometry.specs.Stages.{stages, rowOf, rowsOf}
 use Rattle.geometry.proofs.Facts.{facts}
 use Rattle.geometry.proofs.Places.{set-lt, address-lt, word-lt}
 use Rattle.geometry.proofs.Stages.{rows-drop}
+use Rattle.sizes.specs.declared.Sizes.{Sizes}
+use Rattle.checks.specs.Passed.{Sized, Lent}
 use Rattle.reference.specs.Entry.{Entry, empty, pattern, emptyWord, wordOf}
 use Rattle.reference.specs.Calls.{refused, held}
 use Rattle.reference.specs.Tables.{storeWord, storeEntry}
@@ -29,10 +30,9 @@ use Rattle.reference.specs.Image.{entryRows, covers, storeCover}
 use Rattle.reference.specs.Update.{replaced}
 use Rattle.reference.specs.Steps.{badEntry}
 use Rattle.calls.specs.Answers.{tables}
-use Rattle.calls.specs.Passed.{Sized, Lent}
-use Rattle.update.specs.Replacing.{replacing}
 use Rattle.calls.proofs.Tested.{entry-bad, entry-held}
 use Rattle.calls.proofs.Indexed.{word-within}
+use Rattle.update.specs.Replacing.{replacing}
 
 -- ---- a row and its word for a set
 

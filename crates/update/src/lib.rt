@@ -3,12 +3,12 @@
 // the depth.
 use calls::Answer;
 use calls::Entry;
+use checks::Refusal;
 use geometry::Geometry;
-use geometry::Refusal;
-use geometry::Sizes;
 use places::Address;
 use places::Offset;
 use places::SetIndex;
+use sizes::Sizes;
 ghost use Prim.Native.Nat.{_<_};
 ghost use mathlib.Core.Path.{_≡_};
 ghost use mathlib.Core.List.{[]};
@@ -16,10 +16,10 @@ ghost use lib.ListN.{length};
 ghost use Rattle.words.specs.Rules.{keep};
 ghost use Rattle.words.specs.Bits.{setBit, clearBit};
 ghost use Rattle.geometry.specs.Sizes.{sets, setOf};
+ghost use Rattle.checks.specs.Passed.{Sized, Lent};
 ghost use Rattle.cover.specs.Change.{change, othersCover, isReleased};
 ghost use Rattle.reference.specs.Image.{entryRows, covers, storeCover};
 ghost use Rattle.calls.specs.Answers.{entryFor, tables, left};
-ghost use Rattle.calls.specs.Passed.{Sized, Lent};
 ghost use Rattle.update.specs.Replacing.{replacing};
 
 // Sets the bits of an entry's rows in a set.
@@ -32,7 +32,7 @@ fn set_rows(g: Geometry, sizes: Sizes, indicators: &mut [u64], set: SetIndex, en
     };
     let mut k = 0;
     while k < sizes.stages {
-        set.set_bit(indicators, g.row(pattern, k), sizes);
+        set.set_bit(indicators, sizes::row(g, pattern, k), sizes);
         k += 1;
     }
 }
@@ -47,7 +47,7 @@ fn is_covered_by(g: Geometry, sizes: Sizes, entry: Entry, row: usize) -> bool
     };
     let mut k = 0;
     while k < sizes.stages {
-        if g.row(pattern, k) == row {
+        if sizes::row(g, pattern, k) == row {
             return true;
         }
         k += 1;
@@ -95,7 +95,7 @@ fn clear_released(
     let set = address.set(g);
     let mut k = 0;
     while k < sizes.stages {
-        let row = g.row(pattern, k);
+        let row = sizes::row(g, pattern, k);
         if !is_covered_by(g, sizes, next, row) && !others_cover(g, sizes, store, address, row) {
             set.clear_bit(indicators, row, sizes);
         }

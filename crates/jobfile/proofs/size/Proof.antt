@@ -6,8 +6,8 @@ use native.Mathlib.Omega.{arith}
 use borrow.Author.Needs.{needs}
 use borrow.Author.Tests.{lt-ltb, le-ltb}
 use Rattle.geometry.specs.Valid.{valid}
-use Rattle.geometry.specs.Checks.{sizesOf}
-use Rattle.geometry.proofs.Acceptance.{checked-accepted, checked-refused}
+use Rattle.sizes.specs.SizesOf.{sizesOf}
+use Rattle.checks.proofs.Acceptance.{checked-accepted, checked-refused}
 use Rattle.jobfile.specs.Files.{tooLarge}
 use Rattle.jobfile.proofs.Reading.{large-by-sizes, geometry-stops}
 use Rattle.jobfile.proofs.size.Statement.{statement}
@@ -15,7 +15,7 @@ use Rattle.jobfile.proofs.size.Tie as tie
 
 accepted : (k : tie.After-checked) →
     let g = k .before .before .before .args .header .geometry in (valid g ≡ true) × (k .checked .given .0 .0 ≡ sizesOf g)
-accepted k = checked-accepted _ _ (sym (k .before .before .check .ensures) ∙ k .checked .given .1)
+accepted k = checked-accepted _ _ (sym (k .before .before .geometry .ensures) ∙ k .checked .given .1)
 
 decided : (k : tie.Joined1) → tooLarge (k .before .before .before .before .before .before .args .header .geometry) ≡ k .if1 .if2
 decided k =
@@ -26,7 +26,7 @@ decided k =
 
 returns : tie.Need-returns
 returns c =
-    geometry-stops _ ∙ rw (checked-refused _ _ (sym (c .before .before .check .ensures) ∙ c .enum-told .given .1))
+    geometry-stops _ ∙ rw (checked-refused _ _ (sym (c .before .before .geometry .ensures) ∙ c .enum-told .given .1))
 
 returns-2 : tie.Need-returns-2
 returns-2 c = geometry-stops _ ∙ rw (accepted (c .before .before .before .before) .0, decided (c .before), c .if2 .taken)

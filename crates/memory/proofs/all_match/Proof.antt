@@ -1,43 +1,42 @@
 -- `memory::all_match` meets its contract: rows 1, 2 and 4 by the check, then row 6, or the marks on a match word of zeros.
 use mathlib.Core.Path.{_≡_, sym, ap, _∙_}
+use mathlib.Core.Bool.{false}
 use mathlib.Core.List.{[], _∷_}
 use native.Mathlib.Omega.{arith}
 use lib.ListN.{length, length-replicate}
 use borrow.Author.Needs.{needs}
+use Rattle.machines.specs.Refusals.{_given-when_}
 use Rattle.geometry.specs.Sizes.{matchWords}
 use Rattle.geometry.proofs.Facts.{facts}
 use Rattle.geometry.proofs.Places.{matches-least}
+use Rattle.checks.proofs.Rows.{Decides, pattern-row}
 use Rattle.reference.specs.Calls.{allMatch, lent}
-use Rattle.machines.specs.Refusals.{_given-when_}
+use Rattle.reference.specs.Refusals.{badPattern}
 use Rattle.reference.specs.Search.{anyIsFalse}
-use Rattle.reference.specs.Steps.{ownRefusals}
+use Rattle.reference.specs.Steps.{ownRefusals, refusals}
 use Rattle.calls.specs.Answers.{tables}
-use Rattle.calls.specs.Passed.{Lent}
 use Rattle.collect.proofs.Marking.{length-marked}
-use Rattle.calls.proofs.Shown.{matches-lent}
-use Rattle.geometry.proofs.Acceptance.{row-accepted}
-use Rattle.memory.proofs.Decided.{Decides, matches-decide, pattern-decides}
-use Rattle.memory.proofs.Outcomes.{refused-left, false-left, matched-left}
+use Rattle.memory.proofs.Decided.{LentAs, matches-decide}
+use Rattle.memory.proofs.Outcomes.{refused-left, rest-left, false-left, matched-left}
 use Rattle.memory.proofs.all_match.Statement.{statement}
 use Rattle.memory.proofs.all_match.Tie as tie
 
 decided : (k : tie.After-and-pattern) → let x = k .before .before .before .before .before .args in
     let t = tables (x .store .now) (x .indicators .now) in
-    Decides (x .g) t (allMatch (x .key) (x .matches .now)) (k .and-pattern .result) (6 given-when anyIsFalse (x .g) t (x .key) ∷ [])
-unfolding ownRefusals
-decided k = pattern-decides _ (k .and-pattern .ensures) (matches-decide _ _ _ _ (k .before .check-matches .ensures))
+    Decides (refusals (x .g) t (allMatch (x .key) (x .matches .now))) (k .and-pattern .result) (6 given-when anyIsFalse (x .g) t (x .key) ∷ [])
+    (λ z. (LentAs (x .g) t z × (length (x .matches .now) ≡ matchWords (x .g))) × (badPattern (x .g) (x .key) ≡ false))
+unfolding ownRefusals badPattern
+decided k = pattern-row _ _ (λ z s. s .0 .sized) (k .and-pattern .ensures) (matches-decide _ _ _ _ (k .before .matches .ensures))
 
 -- the lengths, where the check accepted
 lent-at : (k : tie.After-checked) → let x = k .before .before .before .before .before .before .before .args in
-    Lent (x .g) (k .checked .given .0 .0) (length (x .store .now)) (length (x .indicators .now)) × (length (x .matches .now) ≡ matchWords (x .g))
-lent-at k =
-    let p = k .before .before in
-    matches-lent _ _ _ _ _ (sym (p .before .check-matches .ensures) ∙ row-accepted _ _ _ _ (sym (p .and-pattern .ensures) ∙ k .checked .given .1) .0)
+    LentAs (x .g) (tables (x .store .now) (x .indicators .now)) (k .checked .given .0 .0) × (length (x .matches .now) ≡ matchWords (x .g))
+lent-at k = decided (k .before .before) .shown _ (k .checked .given .1) .0
 
 returns : tie.Need-returns
 returns c =
     let k = c .before .before .before in
-    false-left _ _ _ _ _ (sym (c .before .any-is-false .ensures) ∙ c .if1 .taken) ∙ sym (decided (k .before .before) .rows .passes _ (k .checked .given .1))
+    false-left _ _ _ _ _ (sym (c .before .any-is-false .ensures) ∙ c .if1 .taken) ∙ rest-left _ _ _ (allMatch _ _) (decided (k .before .before)) (k .checked .given .1)
 
 -- the match word of zeros has its length
 zeroed : (z : tie.After-zero-all) → length (z .zero-all .last .0) ≡ matchWords (z .before .before .before .before .before .before .before .before .before .before .before .before .args .g)
@@ -61,11 +60,11 @@ returns-2 c =
     let k = e .before .before .before in
     matched-left _ _ _ _ _ _ _ _ (sym (e .before .any-is-false .ensures) ∙ e .if1 .left) (t .take-all .ensures) (z .zero-all .ensures) (lent-at k .1)
     (c .total-ones .ensures)
-    ∙ sym (decided (k .before .before) .rows .passes _ (k .checked .given .1))
+    ∙ rest-left _ _ _ (allMatch _ _) (decided (k .before .before)) (k .checked .given .1)
 
 returns-3 : tie.Need-returns-3
 unfolding lent
-returns-3 c = let k = c .before in refused-left (decided (k .before .before)) (k .checked2 .given .1)
+returns-3 c = let k = c .before in refused-left _ _ _ (allMatch _ _) (decided (k .before .before)) (k .checked2 .given .1)
 
 pub all-match-spec : {M : Type 1} → statement M
 all-match-spec =

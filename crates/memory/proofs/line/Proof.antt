@@ -8,11 +8,10 @@ use borrow.Author.Needs.{needs}
 use borrow.Author.Tests.{leb-true, leb-false, le-ltb, eq-eqb, ne-eqb, not-true, not-false}
 use Rattle.geometry.specs.declared.Geometry.{Geometry}
 use Rattle.geometry.specs.Sizes.{sets}
-use Rattle.geometry.proofs.Acceptance.{checked-refused}
+use Rattle.checks.specs.Passed.{Sized}
+use Rattle.checks.proofs.Acceptance.{checked-sized, checked-refused}
 use Rattle.reference.specs.Line.{line}
 use Rattle.reference.proofs.Line.{true-line, line-refused}
-use Rattle.calls.specs.Passed.{Sized}
-use Rattle.calls.proofs.Shown.{checked-sized}
 use Rattle.memory.specs.Lines.{HandsBack}
 use Rattle.memory.proofs.line.Statement.{statement}
 use Rattle.memory.proofs.line.Tie as tie
@@ -22,7 +21,7 @@ abbrev start : tie.After-checked → tie.Start
 start k = k .before .before .before .before
 
 sized-at : (k : tie.After-checked) → Sized (start k .args .g) (k .checked .given .0 .0)
-sized-at k = checked-sized _ _ (sym (k .before .before .check .ensures) ∙ k .checked .given .1)
+sized-at k = checked-sized _ _ (sym (k .before .before .geometry .ensures) ∙ k .checked .given .1)
 
 -- an empty part need not lie anywhere
 empty-part : {g : Geometry} {store part : RefT (List ℕ)} {s : ℕ} → line g (now store) s ≡ [] → now part ≡ [] → HandsBack g store part s
@@ -62,7 +61,7 @@ returns-2 c =
 returns-3 : tie.Need-returns-3
 returns-3 c =
     let k = c .before in
-    let bad = checked-refused _ _ (sym (k .before .before .check .ensures) ∙ k .enum-told .given .1) in
+    let bad = checked-refused _ _ (sym (k .before .before .geometry .ensures) ∙ k .enum-told .given .1) in
     empty-part (line-refused _ _ _ (rw bad)) refl
 
 pub line-spec : {M : Type 1} → statement M

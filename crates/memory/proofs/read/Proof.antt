@@ -1,17 +1,21 @@
 -- `memory::read` meets its contract: rows 1 to 3 by the check, and then the entry or row 5.
 use mathlib.Core.Path.{_≡_, refl, sym, ap, _∙_}
-use mathlib.Core.Bool.{not}
+use mathlib.Core.Bool.{false, not}
 use mathlib.Core.List.{[], _∷_}
 use native.Mathlib.Omega.{arith}
 use borrow.Author.Needs.{needs}
-use Rattle.reference.specs.Calls.{read, lent}
 use Rattle.machines.specs.Refusals.{_given-when_}
-use Rattle.reference.specs.Steps.{badMatches, badEntry, ownRefusals}
+use Rattle.checks.specs.declared.Refusal.the-variants.{BadAddress}
+use Rattle.checks.specs.Passed.{Sized}
+use Rattle.checks.proofs.Rows.{Decides, row-tested}
+use Rattle.reference.specs.Calls.{read, lent}
+use Rattle.reference.specs.Refusals.{badAddress}
+use Rattle.reference.specs.Steps.{badMatches, badEntry, ownRefusals, refusals}
+use Rattle.reference.proofs.Limits.{address-passes}
 use Rattle.calls.specs.Answers.{tables}
-use Rattle.calls.specs.Passed.{Sized}
 use Rattle.calls.proofs.Tested.{entry-bad, entry-held}
-use Rattle.memory.proofs.Decided.{Decides, tables-decide, address-decides, address-inside}
-use Rattle.memory.proofs.Outcomes.{refused-left, bad-left, held-left}
+use Rattle.memory.proofs.Decided.{LentAs, tables-decide}
+use Rattle.memory.proofs.Outcomes.{refused-left, rest-left, bad-left, held-left}
 use Rattle.memory.proofs.read.Statement.{statement}
 use Rattle.memory.proofs.read.Tie as tie
 
@@ -24,21 +28,21 @@ tested k = k .before .before
 
 decided : (k : tie.After-and-row) → let x = start (k .before) .args in
     let t = tables (x .store .now) (x .indicators .now) in
-    Decides (x .g) t (read (x .address .0)) (k .and-row .result) (5 given-when badEntry (x .g) t (x .address .0) ∷ [])
-unfolding badMatches ownRefusals
+    Decides (refusals (x .g) t (read (x .address .0))) (k .and-row .result) (5 given-when badEntry (x .g) t (x .address .0) ∷ [])
+    (λ z. LentAs (x .g) t z × (badAddress (x .g) (x .address .0) ≡ false))
+unfolding badMatches ownRefusals badAddress
 decided k =
     let o = k .before in
-    address-decides _ _ (o .is-outside .ensures) (k .and-row .ensures) (tables-decide _ _ (read _) refl (o .before .check-tables .ensures))
+    row-tested BadAddress (o .is-outside .ensures) (k .and-row .ensures) (tables-decide _ _ (read _) refl (o .before .tables .ensures))
 
 sized-at : (k : tie.After-checked) → Sized (start (tested k .before) .args .g) (k .checked .given .0 .0)
-sized-at k = decided (tested k) .lent _ (k .checked .given .1) .sized
+sized-at k = decided (tested k) .shown _ (k .checked .given .1) .0 .sized
 
 word-requires : tie.Need-word-requires
 word-requires c κs =
     let k = c .before in
-    let a = tested k in
-    let o = a .before in
-    omega (arith, decided a .lent _ (k .checked .given .1) .entries, address-inside _ (start o .args .g) _ _ _ (o .is-outside .ensures) (sym (a .and-row .ensures) ∙ k .checked .given .1))
+    let shown = decided (tested k) .shown _ (k .checked .given .1) in
+    omega (arith, shown .0 .entries, address-passes _ _ .0 (shown .1))
 
 -- row 5, by what the code found of the word
 bad : (c : tie.After-is-sound) → let x = start (tested (c .before .before .before) .before) .args in
@@ -57,17 +61,17 @@ returns c =
     let x = start (tested k .before) .args in
     held-left (x .g) (x .store .now) (x .indicators .now) _ (c .entry-of .result) (bad s ∙ ap not (c .before .if1 .taken))
     (c .entry-of .ensures ∙ entry-held (sized-at k) (x .store .now) (x .indicators .now) _ _ (w .word .ensures))
-    ∙ sym (decided (tested k) .rows .passes _ (k .checked .given .1))
+    ∙ rest-left _ _ _ (read _) (decided (tested k)) (k .checked .given .1)
 
 returns-2 : tie.Need-returns-2
 returns-2 c =
     let s = c .before in
     let k = s .before .before .before in
-    bad-left _ _ _ _ (bad s ∙ ap not (c .if1 .left)) ∙ sym (decided (tested k) .rows .passes _ (k .checked .given .1))
+    bad-left _ _ _ _ (bad s ∙ ap not (c .if1 .left)) ∙ rest-left _ _ _ (read _) (decided (tested k)) (k .checked .given .1)
 
 returns-3 : tie.Need-returns-3
 unfolding lent
-returns-3 c = let k = c .before in refused-left (decided (k .before .before)) (k .checked2 .given .1)
+returns-3 c = let k = c .before in refused-left _ _ _ (read _) (decided (k .before .before)) (k .checked2 .given .1)
 
 pub read-spec : {M : Type 1} → statement M
 read-spec =

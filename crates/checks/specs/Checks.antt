@@ -1,0 +1,56 @@
+-- What the checks give: the sizes of a geometry, or document 01's refusals 1 to 4 in their order.
+use Prim.Native.Nat.{ℕ}
+use mathlib.Core.Bool.{Bool, cond, not}
+use lib.Dec.{eqb, leb}
+use Rattle.geometry.specs.declared.Geometry.{Geometry}
+use Rattle.geometry.specs.Valid.{valid}
+use Rattle.geometry.specs.Sizes.{matchWords}
+use Rattle.geometry.specs.Stages.{tablesFit}
+use Rattle.sizes.specs.declared.Sizes.{Sizes}
+use Rattle.sizes.specs.SizesOf.{sizesOf}
+use Rattle.checks.specs.declared.Refusal.{Refusal}
+use Rattle.checks.specs.declared.Refusal.the-variants.{BadGeometry, BadLengths, BadAddress, BadPattern, BadEntry, FalseSet}
+use Rattle.checks.specs.declared.Checked.{Checked}
+use Rattle.checks.specs.declared.Checked.the-variants.{Accepted, Refused}
+
+-- Document 01's numbers.
+abbrev pub numberOf : Refusal → ℕ
+numberOf BadGeometry = 1
+numberOf BadLengths = 2
+numberOf BadAddress = 3
+numberOf BadPattern = 4
+numberOf BadEntry = 5
+numberOf FalseSet = 6
+
+-- The sizes in what a check gave. A refusal has none, and no row is tested after it: there they are zeros.
+unfoldable pub sizesIn : Checked → Sizes
+sizesIn (Accepted sizes) = sizes
+sizesIn (Refused why) = record {
+  patterns = 0;
+  sets = 0;
+  «row_words» = 0;
+  stages = 0;
+  «indicator_words» = 0;
+  «match_words» = 0;
+}
+
+-- Refusal 1 where the four numbers are no geometry.
+unfoldable pub checked : Geometry → Checked
+checked g = cond (valid g) (Accepted (sizesOf g)) (Refused BadGeometry)
+
+-- One row more of document 01's table: its refusal where its test holds, and no row above it was given.
+unfoldable pub andRow : Checked → Refusal → (test : Sizes → Bool) → Checked
+andRow (Accepted sizes) why test = cond (test sizes) (Refused why) (Accepted sizes)
+andRow (Refused above) why test = Refused above
+
+unfoldable pub checkedTables : Geometry → (store indicators : ℕ) → Checked
+checkedTables g store indicators = andRow (checked g) BadLengths (λ sizes. not (tablesFit g store indicators))
+
+-- "or match word not D / 64 rounded up"
+unfoldable pub checkedMatches : Geometry → (store indicators matches : ℕ) → Checked
+checkedMatches g store indicators matches =
+    andRow (checkedTables g store indicators) BadLengths (λ sizes. not (eqb matches (matchWords g)))
+
+-- "pattern is 2^P or more"
+abbrev pub andPattern : Checked → (pattern : ℕ) → Checked
+andPattern x p = andRow x BadPattern (λ sizes. leb (sizes .patterns) p)

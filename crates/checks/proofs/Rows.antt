@@ -20,7 +20,7 @@ use Rattle.checks.specs.declared.Checked.{Checked}
 use Rattle.checks.specs.declared.Checked.the-variants.{Accepted, Refused}
 use Rattle.checks.specs.Checks.{numberOf, checked, andRow, checkedTables, checkedMatches, andPattern}
 use Rattle.checks.specs.Passed.{Sized, Lent}
-use Rattle.checks.proofs.Acceptance.{never, checked-sized}
+use Rattle.checks.proofs.Acceptance.{never, row-accepted, tables-accepted, sized-of, checked-sized}
 
 -- x is what the checks so far gave, `rest` are the rows of the table that are still to be tested, and `Shown` is what an
 -- acceptance has shown.
@@ -47,16 +47,23 @@ module _ {table rest : List RefusalRow} {x y : Checked} {Shown : Sizes → Type 
   pub row-more : (why : Refusal) (test : Sizes → Bool) {b : Bool} → ((z : Sizes) → Shown z → test z ≡ b) → y ≡ andRow x why test
       → Decides table x (numberOf why given-when b ∷ rest) Shown → Decides table y rest (λ z. Shown z × (b ≡ false))
   unfolding andRow firstRefusal
-  row-more why test {b} same is d = rw is (go x refl)
+  row-more why test {b} same is d = record {
+    stops = λ w f. stopped x refl w (sym is ∙ f);
+    passes = λ z f. let p = passed z f in d .passes z (p .0) ∙ rw (p .1);
+    shown = λ z f. let p = passed z f in (d .shown z (p .0), p .1);
+  }
     where
-      tested : (z₀ : Sizes) → x ≡ Accepted z₀ → (b : Bool) → firstRefusal table ≡ firstRefusal (numberOf why given-when b ∷ rest)
-          → Decides table (cond b (Refused why) (Accepted z₀)) rest (λ z. Shown z × (b ≡ false))
-      tested z₀ e true p = record { stops = λ w f. let is : why ≡ w = cc in p ∙ ap (λ w. some (numberOf w)) is; passes = λ z f. never f; shown = λ z f. never f }
-      tested z₀ e false p = record { stops = λ w f. never (sym f); passes = λ z f. p; shown = λ z f. (d .shown z (e ∙ f), refl) }
+      passed : (z : Sizes) → y ≡ Accepted z → (x ≡ Accepted z) × (b ≡ false)
+      passed z f = let p = row-accepted x why test z (sym is ∙ f) in (p .0, sym (same z (d .shown z (p .0))) ∙ p .1)
 
-      go : (w : Checked) → x ≡ w → Decides table (andRow w why test) rest (λ z. Shown z × (b ≡ false))
-      go (Refused above) e = record { stops = λ w f. d .stops w (e ∙ f); passes = λ z f. never f; shown = λ z f. never f }
-      go (Accepted z₀) e = rw (same z₀ (d .shown z₀ e)) (tested z₀ e b (d .passes z₀ e))
+      stopped : (r : Checked) → x ≡ r → (w : Refusal) → andRow r why test ≡ Refused w → firstRefusal table ≡ some (numberOf w)
+      stopped (Refused above) e w f = d .stops w (e ∙ f)
+      stopped (Accepted z₀) e w f = go b (d .passes z₀ e) (rw (same z₀ (d .shown z₀ e)) at f)
+        where
+          go : (b : Bool) → firstRefusal table ≡ firstRefusal (numberOf why given-when b ∷ rest) → cond b (Refused why) (Accepted z₀) ≡ Refused w
+              → firstRefusal table ≡ some (numberOf w)
+          go true p f = let is : why ≡ w = cc in p ∙ ap (λ w. some (numberOf w)) is
+          go false p f = never (sym f)
 
   -- by a test that needs no sizes
   pub row-tested : (why : Refusal) {b applies : Bool} → applies ≡ b → y ≡ andRow x why (λ z. applies)
@@ -67,11 +74,6 @@ module _ {table rest : List RefusalRow} {x y : Checked} {Shown : Sizes → Type 
   pub pattern-row : (g : Geometry) (p : ℕ) → ((z : Sizes) → Shown z → Sized g z) → y ≡ andPattern x p
       → Decides table x (4 given-when leb (patterns g) p ∷ rest) Shown → Decides table y rest (λ z. Shown z × (leb (patterns g) p ≡ false))
   pattern-row g p sized = row-more BadPattern (λ z. leb (z .patterns) p) (λ z s. rw (sized z s .same-patterns))
-
--- what was shown, in other words
-shown-as : {table rest : List RefusalRow} {x : Checked} {Shown Known : Sizes → Type 0} → ((z : Sizes) → Shown z → Known z) → Decides table x rest Shown
-    → Decides table x rest Known
-shown-as means d = record { stops = d .stops; passes = d .passes; shown = λ z f. means z (d .shown z f) }
 
 -- a row that is tested in two parts
 pub row-twice : {table rest : List RefusalRow} {x : Checked} {Shown : Sizes → Type 0} (n : ℕ) (p q : Bool)
@@ -85,19 +87,23 @@ row-twice {rest} n p q d = record { stops = d .stops; passes = λ z f. d .passes
 
 -- row 2
 module _ (g : Geometry) (store indicators : ℕ) where
-  lent-of : {b : Bool} → not (tablesFit g store indicators) ≡ b → (z : Sizes) → Sized g z × (b ≡ false) → Lent g z store indicators
-  lent-of same z s =
-      let fit = and-eq-true-iff (eqb store (g .depth)) (eqb indicators (indicatorWords g)) .0 (not-false _ (same ∙ s .1)) in
-      record { sized = s .0; entries = eqb-true _ _ (fit .0); words = eqb-true _ _ (fit .1) }
+  tables-lent : (z : Sizes) → checkedTables g store indicators ≡ Accepted z → Lent g z store indicators
+  tables-lent z e =
+      let k = tables-accepted g store indicators z e in
+      let fit = and-eq-true-iff (eqb store (g .depth)) (eqb indicators (indicatorWords g)) .0 (k .1) in
+      record { sized = sized-of g z (k .0) (k .2); entries = eqb-true _ _ (fit .0); words = eqb-true _ _ (fit .1) }
 
   pub tables-row : {table rest : List RefusalRow} {x : Checked} {b : Bool} → not (tablesFit g store indicators) ≡ b → x ≡ checkedTables g store indicators
       → Decides table (checked g) (2 given-when b ∷ rest) (Sized g) → Decides table x rest (λ z. Lent g z store indicators)
   unfolding checkedTables
-  tables-row same is d = shown-as (lent-of same) (row-more BadLengths (λ z. not (tablesFit g store indicators)) (λ z s. same) is d)
+  tables-row same is d =
+      let r = row-more BadLengths (λ z. not (tablesFit g store indicators)) (λ z s. same) is d in
+      record { stops = r .stops; passes = r .passes; shown = λ z e. tables-lent z (sym is ∙ e) }
 
   pub matches-row : {table rest : List RefusalRow} {x : Checked} (matches : ℕ) → x ≡ checkedMatches g store indicators matches
       → Decides table (checkedTables g store indicators) (2 given-when not (eqb matches (matchWords g)) ∷ rest) (λ z. Lent g z store indicators)
       → Decides table x rest (λ z. Lent g z store indicators × (matches ≡ matchWords g))
   unfolding checkedMatches
   matches-row matches is d =
-      shown-as (λ z s. (s .0, eqb-true _ _ (not-false _ (s .1)))) (row-more BadLengths (λ z. not (eqb matches (matchWords g))) (λ z s. refl) is d)
+      let r = row-more BadLengths (λ z. not (eqb matches (matchWords g))) (λ z s. refl) is d in
+      record { stops = r .stops; passes = r .passes; shown = λ z e. let s = r .shown z e in (s .0, eqb-true _ _ (not-false _ (s .1))) }

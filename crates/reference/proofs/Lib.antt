@@ -8,6 +8,7 @@ pub mod Indicated
 pub mod Mirrored
 pub mod Image
 pub mod Emptied
+pub mod Hits
 pub mod Agreement
 pub mod History
 pub mod Paper

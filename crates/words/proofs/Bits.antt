@@ -243,7 +243,7 @@ unfolding bitWords
 bitWords-ext n r s h = tabulate-ext n _ _ (λ j l. word-ext 64 _ _ (λ b m. h (64 * j + b)))
 
 -- they have as many ones as the rule holds often
-ones-of-rule : (n : ℕ) (r : ℕ → Bool) → totalOnes (bitWords n r) ≡ count (64 * n) r
+pub ones-of-rule : (n : ℕ) (r : ℕ → Bool) → totalOnes (bitWords n r) ≡ count (64 * n) r
 unfolding bitWords totalOnes tabulate
 ones-of-rule zero r = unfold count in refl
 ones-of-rule (suc n) r =

@@ -9,14 +9,14 @@ use Rattle.machines.specs.Refusals.{_given-when_}
 use Rattle.geometry.specs.Sizes.{matchWords}
 use Rattle.geometry.proofs.Facts.{facts}
 use Rattle.geometry.proofs.Places.{matches-least}
-use Rattle.checks.proofs.Rows.{Decides, pattern-row}
+use Rattle.checks.proofs.Rows.{Decides}
 use Rattle.reference.specs.Calls.{allMatch, lent}
 use Rattle.reference.specs.Refusals.{badPattern}
 use Rattle.reference.specs.Search.{anyIsFalse}
 use Rattle.reference.specs.Steps.{ownRefusals, refusals}
 use Rattle.calls.specs.Answers.{tables}
 use Rattle.collect.proofs.Marking.{length-marked}
-use Rattle.memory.proofs.Decided.{LentAs, matches-decide}
+use Rattle.memory.proofs.Decided.{LentAs, matches-decide, pattern-decides}
 use Rattle.memory.proofs.Outcomes.{refused-left, rest-left, false-left, matched-left}
 use Rattle.memory.proofs.all_match.Statement.{statement}
 use Rattle.memory.proofs.all_match.Tie as tie
@@ -25,8 +25,8 @@ decided : (k : tie.After-and-pattern) → let x = k .before .before .before .bef
     let t = tables (x .store .now) (x .indicators .now) in
     Decides (refusals (x .g) t (allMatch (x .key) (x .matches .now))) (k .and-pattern .result) (6 given-when anyIsFalse (x .g) t (x .key) ∷ [])
     (λ z. (LentAs (x .g) t z × (length (x .matches .now) ≡ matchWords (x .g))) × (badPattern (x .g) (x .key) ≡ false))
-unfolding ownRefusals badPattern
-decided k = pattern-row _ _ (λ z s. s .0 .sized) (k .and-pattern .ensures) (matches-decide _ _ _ _ (k .before .matches .ensures))
+unfolding ownRefusals
+decided k = pattern-decides _ _ (λ z s. s .0 .sized) (k .and-pattern .ensures) (matches-decide _ _ _ _ (k .before .matches .ensures))
 
 -- the lengths, where the check accepted
 lent-at : (k : tie.After-checked) → let x = k .before .before .before .before .before .before .before .args in

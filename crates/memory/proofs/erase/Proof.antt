@@ -4,14 +4,13 @@ use mathlib.Core.Bool.{false}
 use mathlib.Core.List.{[], _∷_}
 use borrow.Author.Needs.{needs}
 use Rattle.machines.specs.Refusals.{_given-when_}
-use Rattle.checks.specs.declared.Refusal.the-variants.{BadAddress}
-use Rattle.checks.proofs.Rows.{Decides, row-tested}
+use Rattle.checks.proofs.Rows.{Decides}
 use Rattle.reference.specs.Calls.{erase, lent}
 use Rattle.reference.specs.Refusals.{badAddress}
 use Rattle.reference.specs.Steps.{badMatches, badEntry, ownRefusals, refusals, accepted}
 use Rattle.reference.proofs.Limits.{address-passes}
 use Rattle.calls.specs.Answers.{tables}
-use Rattle.memory.proofs.Decided.{LentAs, tables-decide}
+use Rattle.memory.proofs.Decided.{LentAs, tables-decide, address-decides}
 use Rattle.memory.proofs.Outcomes.{refused-left, rest-left, replacing-left}
 use Rattle.memory.proofs.erase.Statement.{statement}
 use Rattle.memory.proofs.erase.Tie as tie
@@ -24,10 +23,10 @@ decided : (k : tie.After-and-row) → let x = start (k .before) .args in
     let t = tables (x .store .now) (x .indicators .now) in
     Decides (refusals (x .g) t (erase (x .address .0))) (k .and-row .result) (5 given-when badEntry (x .g) t (x .address .0) ∷ [])
     (λ z. LentAs (x .g) t z × (badAddress (x .g) (x .address .0) ≡ false))
-unfolding badMatches ownRefusals badAddress
+unfolding badMatches ownRefusals
 decided k =
     let o = k .before in
-    row-tested BadAddress (o .is-outside .ensures) (k .and-row .ensures) (tables-decide _ _ (erase _) refl (o .before .tables .ensures))
+    address-decides _ _ (o .is-outside .ensures) (k .and-row .ensures) (tables-decide _ _ (erase _) refl (o .before .tables .ensures))
 
 replace-requires : tie.Need-replace-requires
 replace-requires c κs =

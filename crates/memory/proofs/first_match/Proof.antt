@@ -4,13 +4,13 @@ use mathlib.Core.Bool.{false}
 use mathlib.Core.List.{[], _∷_}
 use borrow.Author.Needs.{needs}
 use Rattle.machines.specs.Refusals.{_given-when_}
-use Rattle.checks.proofs.Rows.{Decides, pattern-row}
+use Rattle.checks.proofs.Rows.{Decides}
 use Rattle.reference.specs.Calls.{firstMatch, lent}
 use Rattle.reference.specs.Refusals.{badPattern}
 use Rattle.reference.specs.Search.{isFalse, firstFound}
 use Rattle.reference.specs.Steps.{badMatches, ownRefusals, refusals}
 use Rattle.calls.specs.Answers.{tables}
-use Rattle.memory.proofs.Decided.{LentAs, tables-decide}
+use Rattle.memory.proofs.Decided.{LentAs, tables-decide, pattern-decides}
 use Rattle.memory.proofs.Outcomes.{refused-left, rest-left, first-left}
 use Rattle.memory.proofs.first_match.Statement.{statement}
 use Rattle.memory.proofs.first_match.Tie as tie
@@ -19,8 +19,8 @@ decided : (k : tie.After-and-pattern) → let x = k .before .before .before .bef
     let t = tables (x .store .now) (x .indicators .now) in
     Decides (refusals (x .g) t (firstMatch (x .key))) (k .and-pattern .result) (6 given-when isFalse (firstFound (x .g) t (x .key)) ∷ [])
     (λ z. LentAs (x .g) t z × (badPattern (x .g) (x .key) ≡ false))
-unfolding badMatches ownRefusals badPattern
-decided k = pattern-row _ _ (λ z s. s .sized) (k .and-pattern .ensures) (tables-decide _ _ (firstMatch _) refl (k .before .tables .ensures))
+unfolding badMatches ownRefusals
+decided k = pattern-decides _ _ (λ z s. s .sized) (k .and-pattern .ensures) (tables-decide _ _ (firstMatch _) refl (k .before .tables .ensures))
 
 first-requires : tie.Need-first-requires
 first-requires c κs = let k = c .before in decided (k .before .before) .shown _ (k .checked .given .1) .0

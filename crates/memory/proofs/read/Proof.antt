@@ -5,16 +5,15 @@ use mathlib.Core.List.{[], _∷_}
 use native.Mathlib.Omega.{arith}
 use borrow.Author.Needs.{needs}
 use Rattle.machines.specs.Refusals.{_given-when_}
-use Rattle.checks.specs.declared.Refusal.the-variants.{BadAddress}
 use Rattle.checks.specs.Passed.{Sized}
-use Rattle.checks.proofs.Rows.{Decides, row-tested}
+use Rattle.checks.proofs.Rows.{Decides}
 use Rattle.reference.specs.Calls.{read, lent}
 use Rattle.reference.specs.Refusals.{badAddress}
 use Rattle.reference.specs.Steps.{badMatches, badEntry, ownRefusals, refusals}
 use Rattle.reference.proofs.Limits.{address-passes}
 use Rattle.calls.specs.Answers.{tables}
 use Rattle.calls.proofs.Tested.{entry-bad, entry-held}
-use Rattle.memory.proofs.Decided.{LentAs, tables-decide}
+use Rattle.memory.proofs.Decided.{LentAs, tables-decide, address-decides}
 use Rattle.memory.proofs.Outcomes.{refused-left, rest-left, bad-left, held-left}
 use Rattle.memory.proofs.read.Statement.{statement}
 use Rattle.memory.proofs.read.Tie as tie
@@ -30,10 +29,10 @@ decided : (k : tie.After-and-row) → let x = start (k .before) .args in
     let t = tables (x .store .now) (x .indicators .now) in
     Decides (refusals (x .g) t (read (x .address .0))) (k .and-row .result) (5 given-when badEntry (x .g) t (x .address .0) ∷ [])
     (λ z. LentAs (x .g) t z × (badAddress (x .g) (x .address .0) ≡ false))
-unfolding badMatches ownRefusals badAddress
+unfolding badMatches ownRefusals
 decided k =
     let o = k .before in
-    row-tested BadAddress (o .is-outside .ensures) (k .and-row .ensures) (tables-decide _ _ (read _) refl (o .before .tables .ensures))
+    address-decides _ _ (o .is-outside .ensures) (k .and-row .ensures) (tables-decide _ _ (read _) refl (o .before .tables .ensures))
 
 sized-at : (k : tie.After-checked) → Sized (start (tested k .before) .args .g) (k .checked .given .0 .0)
 sized-at k = decided (tested k) .shown _ (k .checked .given .1) .0 .sized

@@ -4,14 +4,13 @@ use mathlib.Core.Bool.{false}
 use mathlib.Core.List.{[], _∷_}
 use borrow.Author.Needs.{needs}
 use Rattle.machines.specs.Refusals.{_given-when_}
-use Rattle.checks.specs.declared.Refusal.the-variants.{BadAddress}
-use Rattle.checks.proofs.Rows.{Decides, row-tested, pattern-row}
+use Rattle.checks.proofs.Rows.{Decides}
 use Rattle.reference.specs.Calls.{write, lent}
 use Rattle.reference.specs.Refusals.{badAddress, badPattern}
 use Rattle.reference.specs.Steps.{badMatches, badEntry, ownRefusals, refusals, accepted}
 use Rattle.reference.proofs.Limits.{address-passes}
 use Rattle.calls.specs.Answers.{tables}
-use Rattle.memory.proofs.Decided.{LentAs, tables-decide}
+use Rattle.memory.proofs.Decided.{LentAs, tables-decide, address-decides, pattern-decides}
 use Rattle.memory.proofs.Outcomes.{refused-left, rest-left, replacing-left}
 use Rattle.memory.proofs.write.Statement.{statement}
 use Rattle.memory.proofs.write.Tie as tie
@@ -24,11 +23,11 @@ decided : (k : tie.After-and-pattern) → let x = start (k .before .before) .arg
     let t = tables (x .store .now) (x .indicators .now) in
     Decides (refusals (x .g) t (write (x .address .0) (x .pattern))) (k .and-pattern .result) (5 given-when badEntry (x .g) t (x .address .0) ∷ [])
     (λ z. (LentAs (x .g) t z × (badAddress (x .g) (x .address .0) ≡ false)) × (badPattern (x .g) (x .pattern) ≡ false))
-unfolding badMatches ownRefusals badAddress badPattern
+unfolding badMatches ownRefusals
 decided k =
     let o = k .before .before in
-    pattern-row _ _ (λ z s. s .0 .sized) (k .and-pattern .ensures)
-    (row-tested BadAddress (o .is-outside .ensures) (k .before .and-row .ensures)
+    pattern-decides _ _ (λ z s. s .0 .sized) (k .and-pattern .ensures)
+    (address-decides _ _ (o .is-outside .ensures) (k .before .and-row .ensures)
     (tables-decide _ _ (write _ _) refl (o .before .tables .ensures)))
 
 replace-requires : tie.Need-replace-requires

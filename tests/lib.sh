@@ -1,4 +1,4 @@
-# For the scripts of tests/ that compare what a command prints with a file: they source this first, and end with `total`.
+# For the scripts of tests/: they source this first, and end with `total`.
 set -uo pipefail
 export LC_ALL=C
 cd "$(dirname "$0")/.." || exit 1
@@ -17,6 +17,22 @@ try() {
         echo "FAILED, $name"
         failed=$((failed + 1))
     fi
+}
+
+# copy_up_to CRATE: copies the crates up to this one into $work, without their must-fail edits, so that one more can be checked there.
+# What is proved already need not be proved again.
+copy_up_to() {
+    local crate
+    mkdir -p "$work/crates" "$work/target/rlib" "$work/target/stamp"
+    sed "/^$1:/q" crates.txt > "$work/crates.txt"
+    for crate in $(sed -n 's/^\(\w*\):.*/\1/p' "$work/crates.txt"); do
+        cp -r "crates/$crate" "$work/crates/"
+        rm -rf "$work/crates/$crate/must-fail"
+        if [ -e "target/stamp/$crate" ] && [ -e "target/rlib/$crate.rlib" ]; then
+            cp -r "target/rlib/$crate.rlib" "$work/target/rlib/"
+            cp "target/stamp/$crate" "$work/target/stamp/"
+        fi
+    done
 }
 
 total() {

@@ -25,14 +25,7 @@ numberOf FalseSet = 6
 -- The sizes in what a check gave. A refusal has none, and no row is tested after it: there they are zeros.
 unfoldable pub sizesIn : Checked → Sizes
 sizesIn (Accepted sizes) = sizes
-sizesIn (Refused why) = record {
-  patterns = 0;
-  sets = 0;
-  «row_words» = 0;
-  stages = 0;
-  «indicator_words» = 0;
-  «match_words» = 0;
-}
+sizesIn (Refused why) = record { patterns = 0; sets = 0; «row_words» = 0; stages = 0; «indicator_words» = 0; «match_words» = 0 }
 
 -- Refusal 1 where the four numbers are no geometry.
 unfoldable pub checked : Geometry → Checked

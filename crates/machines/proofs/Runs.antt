@@ -2,9 +2,12 @@
 -- machine are its run.
 use mathlib.Core.Path.{_≡_, refl, ap, ap₂, _∙_}
 use mathlib.Core.List.{List, [], _∷_, map}
-use Rattle.machines.specs.Machine as machine
 use Rattle.machines.specs.Machine.{Machine, run, after}
 use Rattle.machines.specs.Chain.{Chain, ended, next, last}
+
+-- The state after one call.
+abbrev nextState : {S C L : Type 0} → Machine S C L → S → C → S
+nextState m s c = m .state (m .step s c)
 
 -- `told` is what the second machine is told of a call of the first, and `seen`, `seen′` are what is compared of what a call
 -- leaves.
@@ -13,7 +16,7 @@ module _ {S C L T D K A : Type 0} (m : Machine S C L) (n : Machine T D K) (told 
   -- One call in related states: equal answers, and states that are related again.
   pub record Keeps (s : S) (t : T) (c : C) : Type 0 where
     pub answer : seen (m .step s c) ≡ seen′ (n .step t (told c))
-    pub related : Related (machine.next m s c) (machine.next n t (told c))
+    pub related : Related (nextState m s c) (nextState n t (told c))
 
   -- A whole history: the same.
   pub record Together (s : S) (t : T) (cs : List C) : Type 0 where
@@ -25,7 +28,7 @@ module _ {S C L T D K A : Type 0} (m : Machine S C L) (n : Machine T D K) (told 
   together keeps s t r [] = record { answers = refl; ends = r }
   together keeps s t r (c ∷ cs) =
       let k = keeps s t r c in
-      let rest = together keeps (machine.next m s c) (machine.next n t (told c)) (k .related) cs in
+      let rest = together keeps (nextState m s c) (nextState n t (told c)) (k .related) cs in
       record { answers = ap₂ (λ (x : A) (xs : List A). x ∷ xs) (k .answer) (rest .answers); ends = rest .ends }
 
 -- `call` is the call of an event, `answer` what came back and `state` what it left.
@@ -33,7 +36,7 @@ module _ {S C L X A : Type 0} (m : Machine S C L) (seen : L → A) (call : X →
   -- An event in a state is the machine's call.
   pub record Is (s : S) (x : X) : Type 0 where
     pub same-answer : answer x ≡ seen (m .step s (call x))
-    pub same-state : state x ≡ machine.next m s (call x)
+    pub same-state : state x ≡ nextState m s (call x)
 
   -- A whole chain: the same.
   pub record Are (s : S) (xs : List X) : Type 0 where

@@ -7,16 +7,12 @@ pub record Machine (State Call Left : Type 0) : Type 0 where
   pub state : Left → State
 
 module _ {State Call Left : Type 0} (m : Machine State Call Left) where
-  -- The state after one call.
-  abbrev pub next : State → Call → State
-  next s c = m .state (m .step s c)
-
   -- What each call of a history leaves, in order.
   unfoldable pub run : State → List Call → List Left
   run s [] = []
-  run s (c ∷ cs) = m .step s c ∷ run (next s c) cs
+  run s (c ∷ cs) = m .step s c ∷ run (m .state (m .step s c)) cs
 
   -- The state at the end.
   unfoldable pub after : State → List Call → State
   after s [] = s
-  after s (c ∷ cs) = after (next s c) cs
+  after s (c ∷ cs) = after (m .state (m .step s c)) cs

@@ -2,7 +2,6 @@
 -- from which a run is known to be its step (`Steps`), and then for what the calls ensure.
 use Prim.Native.Nat.{ℕ}
 use mathlib.Core.Path.{_≡_, sym, ap, _∙_}
-use mathlib.Core.Logic.{_↔_}
 use mathlib.Core.List.{List, _∷_, map}
 use Rattle.machines.specs.Chain.{next}
 use Rattle.machines.proofs.Runs.{Are, chain-is, chain-each}
@@ -13,7 +12,7 @@ use Rattle.reference.specs.Steps.{Outcome, step}
 use Rattle.reference.specs.History.{onTables}
 use Rattle.reference.proofs.Refused.{matches-after}
 use Rattle.reference.proofs.History.{history, equal-tables}
-use Rattle.memory.specs.Runs.{Run, Made, by-call, by-perform, Chain, lastTables, arrayAfterRuns, CodeFollows}
+use Rattle.memory.specs.Runs.{Run, Made, by-call, by-perform, Chain, ChainsFollow, ChainsTell}
 
 -- A run on the tables t is the step of its call, with the match word in its answer or else as lent.
 pub record Steps (g : Geometry) (t : Tables) (x : Run) : Type 0 where
@@ -48,7 +47,7 @@ module _ {Link : Tables → Run → Type 0} (g : Geometry) (steps : (t : Tables)
   first-accepted : (t : Tables) (x : Run) (xs : List Run) → Chain Link t (x ∷ xs) → x .call ≡ clear → x .answer ≡ cleared → step g t clear .answer ≡ cleared
   first-accepted t x xs (next link rest) is ok = sym (rw is at (steps t x link .answer)) ∙ ok
 
-  pub chain-follows : (t : Tables) (x : Run) (xs : List Run) → Chain Link t (x ∷ xs) → x .call ≡ clear → x .answer ≡ cleared → CodeFollows g t (x ∷ xs)
+  pub chain-follows : ChainsFollow g Link
   chain-follows t x xs chain is ok =
       let h = history g t (map (λ (x : Run). x .call) xs) (first-accepted t x xs chain is ok) in
       let r = ran t (x ∷ xs) chain in
@@ -58,20 +57,14 @@ module _ {Link : Tables → Run → Type 0} (g : Geometry) (steps : (t : Tables)
         tables = r .ends ∙ rw is (h .tables);
       }
 
-  -- Two chains of one geometry leave equal tables exactly when they leave equal arrays.
-  pub chains-equal-tables : (t u : Tables) (x y : Run) (xs ys : List Run) → Chain Link t (x ∷ xs) → Chain Link u (y ∷ ys)
-      → x .call ≡ clear → x .answer ≡ cleared → y .call ≡ clear → y .answer ≡ cleared
-      → (lastTables t (x ∷ xs) ≡ lastTables u (y ∷ ys)) ↔ (arrayAfterRuns g (x ∷ xs) ≡ arrayAfterRuns g (y ∷ ys))
-  chains-equal-tables t u x y xs ys a b isx okx isy oky =
+  pub chains-tell : ChainsTell g Link
+  chains-tell t u x y xs ys a b isx okx isy oky =
       rw (ran t (x ∷ xs) a .ends, ran u (y ∷ ys) b .ends, isx, isy)
       (equal-tables g t u (map (λ (x : Run). x .call) xs) (map (λ (x : Run). x .call) ys) (first-accepted t x xs a isx okx) (first-accepted u y ys b isy oky))
 
 -- The six calls and `perform`, in any mixture.
-module _ (g : Geometry) where
-  pub code-history : (t : Tables) (x : Run) (xs : List Run) → Chain (Made g) t (x ∷ xs) → x .call ≡ clear → x .answer ≡ cleared → CodeFollows g t (x ∷ xs)
-  code-history = chain-follows g (made-steps g)
+pub code-history : (g : Geometry) → ChainsFollow g (Made g)
+code-history g = chain-follows g (made-steps g)
 
-  pub code-equal-tables : (t u : Tables) (x y : Run) (xs ys : List Run) → Chain (Made g) t (x ∷ xs) → Chain (Made g) u (y ∷ ys)
-      → x .call ≡ clear → x .answer ≡ cleared → y .call ≡ clear → y .answer ≡ cleared
-      → (lastTables t (x ∷ xs) ≡ lastTables u (y ∷ ys)) ↔ (arrayAfterRuns g (x ∷ xs) ≡ arrayAfterRuns g (y ∷ ys))
-  code-equal-tables = chains-equal-tables g (made-steps g)
+pub code-equal-tables : (g : Geometry) → ChainsTell g (Made g)
+code-equal-tables g = chains-tell g (made-steps g)

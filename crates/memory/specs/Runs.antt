@@ -1,10 +1,11 @@
 -- Histories of the code: calls that were made one after the other, each on the tables that the last one left.
 use Prim.Native.Nat.{ℕ}
 use mathlib.Core.Path.{_≡_}
-use mathlib.Core.List.{List, map}
+use mathlib.Core.Logic.{_↔_}
+use mathlib.Core.List.{List, _∷_, map}
 use Rattle.machines.specs.Chain as chain
 use Rattle.geometry.specs.declared.Geometry.{Geometry}
-use Rattle.reference.specs.Calls.{Call, Answer, shape, lent, matchesAfter}
+use Rattle.reference.specs.Calls.{Call, clear, Answer, cleared, shape, lent, matchesAfter}
 use Rattle.reference.specs.Array.{Array, emptied}
 use Rattle.reference.specs.Tables.{Tables}
 use Rattle.reference.specs.Image.{tablesOf}
@@ -51,3 +52,15 @@ pub record CodeFollows (g : Geometry) (t : Tables) (xs : List Run) : Type 0 wher
   pub answers : map (λ (x : Run). x .answer) xs ≡ arrayAnswers g (emptied g) (shapes xs)
   pub matches : map (λ (x : Run). x .matches) xs ≡ map (λ (x : Run). matchesAfter (x .answer) (x .lent)) xs
   pub tables : lastTables t xs ≡ tablesOf g (arrayAfterRuns g xs)
+
+-- Of every chain of such links whose first run is a clear that was accepted, whatever the tables were before it.
+abbrev pub ChainsFollow : Geometry → (Link : Tables → Run → Type 0) → Type 0
+ChainsFollow g Link =
+    (t : Tables) (x : Run) (xs : List Run) → Chain Link t (x ∷ xs) → x .call ≡ clear → x .answer ≡ cleared → CodeFollows g t (x ∷ xs)
+
+-- Two such chains leave equal tables exactly when they leave equal arrays.
+abbrev pub ChainsTell : Geometry → (Link : Tables → Run → Type 0) → Type 0
+ChainsTell g Link =
+    (t u : Tables) (x y : Run) (xs ys : List Run) → Chain Link t (x ∷ xs) → Chain Link u (y ∷ ys)
+    → x .call ≡ clear → x .answer ≡ cleared → y .call ≡ clear → y .answer ≡ cleared
+    → (lastTables t (x ∷ xs) ≡ lastTables u (y ∷ ys)) ↔ (arrayAfterRuns g (x ∷ xs) ≡ arrayAfterRuns g (y ∷ ys))

@@ -5,11 +5,11 @@ use mathlib.Core.Bool.{cond, not, _||_}
 use mathlib.Core.List.{List}
 use lib.Dec.{eqb, ltb}
 use Rattle.geometry.specs.declared.Geometry.{Geometry}
-use Rattle.sizes.specs.declared.Sizes.{Sizes}
-use Rattle.checks.specs.Passed.{Sized}
 use Rattle.reference.specs.Entry.{empty, pattern, emptyWord, entryOf}
 use Rattle.reference.specs.Tables.{storeWord, storeEntry}
 use Rattle.reference.specs.Steps.{badEntry}
+use Rattle.sizes.specs.declared.Sizes.{Sizes}
+use Rattle.checks.specs.Passed.{Sized}
 use Rattle.calls.specs.Answers.{tables}
 
 -- w is the word that the store has at address a

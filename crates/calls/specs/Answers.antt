@@ -3,13 +3,13 @@ use Prim.Native.Nat.{ℕ}
 use mathlib.Core.Path.{_≡_}
 use mathlib.Core.List.{List}
 use Rattle.geometry.specs.declared.Geometry.{Geometry}
-use Rattle.checks.specs.Checks.{numberOf}
 use Rattle.reference.specs.Entry as entries
 use Rattle.reference.specs.Entry.{empty, pattern}
 use Rattle.reference.specs.Calls.{clear, write, erase, read, firstMatch, allMatch, refused, cleared, held, at, none, matched, matchesAfter}
 use Rattle.reference.specs.Calls as calls
 use Rattle.reference.specs.Tables.{Tables}
 use Rattle.reference.specs.Steps.{Outcome, step}
+use Rattle.checks.specs.Checks.{numberOf}
 use Rattle.calls.specs.declared.Entry.{Entry}
 use Rattle.calls.specs.declared.Entry.the-variants.{Empty, Pattern}
 use Rattle.calls.specs.declared.Call.{Call}

@@ -1,10 +1,10 @@
 -- Calls and answers of the code beside those that they stand for, as rows of two tables. proofs/Examples.antt computes both.
 use Prim.Native.Nat.{ℕ}
 use mathlib.Core.List.{List, [], _∷_}
-use Rattle.checks.specs.declared.Refusal.the-variants.{BadGeometry, BadLengths, BadAddress, BadPattern, BadEntry, FalseSet}
 use Rattle.reference.specs.Entry.{empty, pattern}
 use Rattle.reference.specs.Calls as calls
 use Rattle.reference.specs.Calls.{clear, write, erase, read, firstMatch, allMatch, refused, cleared, held, at, none, matched}
+use Rattle.checks.specs.declared.Refusal.the-variants.{BadGeometry, BadLengths, BadAddress, BadPattern, BadEntry, FalseSet}
 use Rattle.places.specs.declared.Address.{Address}
 use Rattle.calls.specs.declared.Entry.the-variants.{Empty, Pattern}
 use Rattle.calls.specs.declared.Call.{Call}

@@ -21,8 +21,8 @@ use Rattle.geometry.proofs.Places.{offset-lt, address-same, word-lt}
 use Rattle.reference.specs.Tables.{Tables, storeWord}
 use Rattle.reference.specs.Search.{joined, indicated, chosen, taken}
 use Rattle.calls.specs.Answers.{tables}
-use Rattle.collect.specs.Marks.{marked, inWord}
 use Rattle.search.proofs.Seeking.{joined-in-sets}
+use Rattle.collect.specs.Marks.{marked, inWord}
 
 -- ---- laws of marking
 

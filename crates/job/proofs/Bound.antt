@@ -13,6 +13,8 @@ use Rattle.words.specs.Rules.{lowest}
 use Rattle.words.proofs.Rules.{count-most, LowestIs, at-first, at-none, lowest-is}
 use Rattle.words.proofs.Bits.{length-bitWords}
 use Rattle.machines.specs.Machine as machine
+use Rattle.machines.specs.Refusals.{firstRefusal}
+use Rattle.machines.proofs.Refusals.{Each, given-says}
 use Rattle.geometry.specs.declared.Geometry.{Geometry}
 use Rattle.geometry.specs.Valid.{segmented, valid}
 use Rattle.geometry.specs.Sizes.{matchWords, setOf, offsetOf}
@@ -20,8 +22,6 @@ use Rattle.geometry.proofs.Facts.{Facts, facts, patterns-most, kind-most}
 use Rattle.geometry.proofs.Bounds.{words-few}
 use Rattle.geometry.proofs.Places.{length-most, offset-lt, matches-least}
 use Rattle.reference.specs.Calls.{Call, clear, write, erase, read, firstMatch, allMatch, held}
-use Rattle.machines.specs.Refusals.{firstRefusal}
-use Rattle.machines.proofs.Refusals.{Each, given-says}
 use Rattle.reference.specs.Array.{Array, emptied, entryAt, holding, Sound, counted, arrayRefusals, arrayAccepted, arrayOutcome, arrayStep}
 use Rattle.reference.proofs.Emptied.{emptied-sound}
 use Rattle.figures.specs.Figures.{Bytes}

@@ -3,12 +3,12 @@ use mathlib.Core.Path.{_≡_, refl}
 use mathlib.Core.List.{map}
 use Rattle.words.specs.Rules.{count, lowest, tabulate}
 use Rattle.words.specs.Bits.{word, bitWords}
+use Rattle.machines.specs.Refusals.{firstRefusal}
+use Rattle.machines.specs.Machine as machine
 use Rattle.geometry.specs.Valid.{valid}
 use Rattle.geometry.specs.Sizes.{patterns, sets, rowWords, matchWords}
 use Rattle.geometry.specs.Stages.{stages, stageWidth, rows, indicatorWords}
 use Rattle.reference.specs.Entry.{holds}
-use Rattle.machines.specs.Refusals.{firstRefusal}
-use Rattle.machines.specs.Machine as machine
 use Rattle.reference.specs.Refusals.{badAddress, badPattern}
 use Rattle.reference.specs.Array.{emptied, counted, arrayRefusals, arrayAccepted, arrayOutcome, arrayStep}
 use Rattle.figures.specs.Figures.{ascii, places, decimal, hexadecimal}

@@ -5,13 +5,13 @@ use mathlib.Core.List.{List, _++_}
 use mathlib.Core.Option.{none}
 use native.Mathlib.Omega.{arith}
 use lib.ListN.{length, take, drop}
-use Rattle.sizes.specs.declared.Sizes.{Sizes}
 use Rattle.geometry.specs.Sizes.{matchWords}
 use Rattle.geometry.specs.Stages.{indicatorWords}
-use Rattle.sizes.specs.SizesOf.{sizesOf}
 use Rattle.geometry.proofs.Facts.{facts}
 use Rattle.geometry.proofs.Places.{matches-least}
 use Rattle.reference.specs.Tables.{Tables}
+use Rattle.sizes.specs.declared.Sizes.{Sizes}
+use Rattle.sizes.specs.SizesOf.{sizesOf}
 use Rattle.calls.specs.Answers.{tables}
 use Rattle.figures.specs.Figures.{Bytes}
 use Rattle.figures.specs.Appended.{Appended}

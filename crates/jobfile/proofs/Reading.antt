@@ -7,12 +7,12 @@ use mathlib.Core.Logic.{_≢_}
 use mathlib.Core.Option.{Option, none, some}
 use lib.Dec.{ltb}
 use borrow.Author.Tests.{ne-eqb}
-use Rattle.geometry.specs.declared.Geometry.{Geometry}
-use Rattle.sizes.specs.declared.Sizes.{Sizes}
-use Rattle.geometry.specs.Valid.{valid}
-use Rattle.sizes.specs.SizesOf.{sizesOf}
-use Rattle.reference.specs.Calls.{Call}
 use Rattle.machines.specs.Refusals.{firstRefusal}
+use Rattle.geometry.specs.declared.Geometry.{Geometry}
+use Rattle.geometry.specs.Valid.{valid}
+use Rattle.reference.specs.Calls.{Call}
+use Rattle.sizes.specs.declared.Sizes.{Sizes}
+use Rattle.sizes.specs.SizesOf.{sizesOf}
 use Rattle.figures.specs.Figures.{Bytes}
 use Rattle.jobfile.specs.declared.Command.{Command}
 use Rattle.jobfile.specs.declared.Opened.{Opened}

@@ -3,9 +3,9 @@ use Prim.Native.Nat.{ℕ}
 use mathlib.Core.Path.{_≡_}
 use mathlib.Core.List.{List}
 use mathlib.Core.Option.{Option, none, some}
-use Rattle.sizes.specs.SizesOf.{sizesOf}
-use Rattle.reference.specs.Calls as calls
 use Rattle.machines.specs.Refusals.{RefusalRow, firstRefusal}
+use Rattle.reference.specs.Calls as calls
+use Rattle.sizes.specs.SizesOf.{sizesOf}
 use Rattle.calls.specs.Answers.{callFor}
 use Rattle.jobfile.specs.declared.Header.{Header}
 use Rattle.jobfile.specs.declared.Stop.{Stop}

@@ -8,16 +8,16 @@ use lib.ListN.{length}
 use Rattle.machines.specs.Refusals.{RefusalRow, _given-when_}
 use Rattle.geometry.specs.declared.Geometry.{Geometry}
 use Rattle.geometry.specs.Sizes.{matchWords}
+use Rattle.reference.specs.Calls.{Call, allMatch}
+use Rattle.reference.specs.Refusals.{badAddress, badPattern}
+use Rattle.reference.specs.Tables.{Tables}
+use Rattle.reference.specs.Steps.{badLengths, badMatches, ownRefusals, refusals}
 use Rattle.sizes.specs.declared.Sizes.{Sizes}
 use Rattle.checks.specs.declared.Refusal.the-variants.{BadAddress}
 use Rattle.checks.specs.declared.Checked.{Checked}
 use Rattle.checks.specs.Checks.{andRow, checkedTables, checkedMatches, andPattern}
 use Rattle.checks.specs.Passed.{Sized, Lent}
 use Rattle.checks.proofs.Rows.{Decides, geometry-row, row-tested, pattern-row, row-twice, tables-row, matches-row}
-use Rattle.reference.specs.Calls.{Call, allMatch}
-use Rattle.reference.specs.Refusals.{badAddress, badPattern}
-use Rattle.reference.specs.Tables.{Tables}
-use Rattle.reference.specs.Steps.{badLengths, badMatches, ownRefusals, refusals}
 
 -- The tables have the lengths that the sizes ask for.
 abbrev pub LentAs : Geometry → Tables → Sizes → Type 0

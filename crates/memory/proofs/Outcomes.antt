@@ -8,6 +8,12 @@ use Rattle.words.specs.Bits.{totalOnes}
 use Rattle.machines.specs.Refusals.{RefusalRow, _given-when_, firstRefusal}
 use Rattle.geometry.specs.declared.Geometry.{Geometry}
 use Rattle.geometry.specs.Sizes.{matchWords}
+use Rattle.reference.specs.Entry.{Entry, emptyWord}
+use Rattle.reference.specs.Calls.{Call, clear, read, firstMatch, allMatch, refused, held, lent}
+use Rattle.reference.specs.Tables.{Tables, storeEntry}
+use Rattle.reference.specs.Update.{replaced}
+use Rattle.reference.specs.Search.{Found, hit, nothing, falseSet, isFalse, answerOf, firstFound, anyIsFalse, taken, takenWords}
+use Rattle.reference.specs.Steps.{badEntry, accepted, clearTables, refusals, outcome, step}
 use Rattle.sizes.specs.declared.Sizes.{Sizes}
 use Rattle.checks.specs.declared.Refusal.{Refusal}
 use Rattle.checks.specs.declared.Refusal.the-variants.{BadEntry, FalseSet}
@@ -15,12 +21,6 @@ use Rattle.checks.specs.declared.Checked.{Checked}
 use Rattle.checks.specs.declared.Checked.the-variants as check
 use Rattle.checks.specs.Passed.{Lent}
 use Rattle.checks.proofs.Rows.{Decides}
-use Rattle.reference.specs.Entry.{Entry, emptyWord}
-use Rattle.reference.specs.Calls.{Call, clear, read, firstMatch, allMatch, refused, held, lent}
-use Rattle.reference.specs.Tables.{Tables, storeEntry}
-use Rattle.reference.specs.Update.{replaced}
-use Rattle.reference.specs.Search.{Found, hit, nothing, falseSet, isFalse, answerOf, firstFound, anyIsFalse, taken, takenWords}
-use Rattle.reference.specs.Steps.{badEntry, accepted, clearTables, refusals, outcome, step}
 use Rattle.calls.specs.declared.Entry as code
 use Rattle.calls.specs.declared.Answer.{Answer}
 use Rattle.calls.specs.declared.Answer.the-variants.{Refused, Cleared, Held, Matched}

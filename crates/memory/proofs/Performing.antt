@@ -4,10 +4,10 @@ use mathlib.Core.Path.{_≡_, refl, ap, _∙_}
 use mathlib.Core.Bool.{Bool, true, false, true≢false}
 use mathlib.Core.List.{List, []}
 use mathlib.Core.Option.{Option, none, some}
+use Rattle.machines.specs.Refusals.{firstRefusal}
 use Rattle.geometry.specs.declared.Geometry.{Geometry}
 use Rattle.reference.specs.Calls as calls
 use Rattle.reference.specs.Calls.{clear, write, erase, read, firstMatch, allMatch, refused, cleared, held, at, matched, lent, matchesAfter}
-use Rattle.machines.specs.Refusals.{firstRefusal}
 use Rattle.reference.specs.Tables.{Tables}
 use Rattle.reference.specs.Search.{Found, hit, nothing, falseSet, firstFound, answerOf}
 use Rattle.reference.specs.Steps.{Outcome, refusals, accepted, outcome, step}

@@ -16,13 +16,14 @@ use Rattle.words.specs.Rules.{count, First}
 use Rattle.words.specs.Bits.{bitWords, totalOnes}
 use Rattle.words.proofs.Rules.{count-ext, first-unique, LowestIs, at-first, at-none, lowest-is}
 use Rattle.words.proofs.Bits.{bitWords-ext}
+use Rattle.machines.specs.Refusals.{RefusalRow, _given-when_, firstRefusal, Passed}
+use Rattle.machines.proofs.Refusals.{passes, last-passes}
 use Rattle.geometry.specs.declared.Geometry.{Geometry}
 use Rattle.geometry.specs.Valid.{valid}
 use Rattle.geometry.specs.Sizes.{patterns, matchWords}
 use Rattle.geometry.proofs.Facts.{Facts, facts}
 use Rattle.reference.specs.Entry.{Entry, empty, pattern, Fits, wordOf, holds}
 use Rattle.reference.specs.Calls.{Call, clear, write, erase, read, firstMatch, allMatch, shape, held, matched}
-use Rattle.machines.specs.Refusals.{RefusalRow, _given-when_, firstRefusal, Passed}
 use Rattle.reference.specs.Refusals.{badAddress, badPattern}
 use Rattle.reference.specs.Array.{Array, entryAt, holding, counted, arrayRefusals, ArrayOutcome, arrayAccepted, arrayOutcome, arrayStep, Sound}
 use Rattle.reference.specs.Tables.{storeWord}
@@ -36,7 +37,6 @@ use Rattle.reference.proofs.Covering.{holds-word}
 use Rattle.reference.proofs.Mirrored.{first-is, first-not-false, none-false, taken-is}
 use Rattle.reference.proofs.Searched.{first-any, taken-counted}
 use Rattle.reference.proofs.Image.{store-word, store-entry, image-mirrors, replaced-image}
-use Rattle.machines.proofs.Refusals.{passes, last-passes}
 use Rattle.reference.proofs.Emptied.{emptied-sound, cleared-tables}
 
 -- a last row that does not apply where the pattern's row does not

@@ -6,17 +6,17 @@ use lib.Count.{trailingZeros}
 use Rattle.words.specs.Rules.{any, count, member, keep, tabulate}
 use Rattle.words.specs.Bits.{bit, setBit, clearBit, changeBit, rowMask, word, bitWords, totalOnes}
 use Rattle.words.specs.Seek.{seek}
+use Rattle.machines.specs.Refusals.{firstRefusal}
+use Rattle.machines.specs.Machine as machine
 use Rattle.geometry.specs.Valid.{valid}
 use Rattle.geometry.specs.Sizes.{patterns, sets, rowWords, matchWords, setLength}
 use Rattle.geometry.specs.Stages.{stages, stageWidth, stage, rowOf, rowsOf, rows, indicatorWords}
-use Rattle.reference.specs.Entry.{wordOf, entryOf}
-use Rattle.reference.specs.Calls.{lent}
-use Rattle.machines.specs.Refusals.{firstRefusal}
-use Rattle.machines.specs.Machine as machine
-use Rattle.reference.specs.Refusals.{badAddress, badPattern}
-use Rattle.reference.specs.Image.{entryRows, covers}
 use Rattle.cover.specs.Image.{covered}
 use Rattle.cover.specs.Change.{change, othersCover, moved}
+use Rattle.reference.specs.Entry.{wordOf, entryOf}
+use Rattle.reference.specs.Calls.{lent}
+use Rattle.reference.specs.Refusals.{badAddress, badPattern}
+use Rattle.reference.specs.Image.{entryRows, covers}
 use Rattle.reference.specs.Update.{replaced}
 use Rattle.reference.specs.Search.{joined, indicated, seekWord, seekEntry, lowestSet, isFalse, inSet, firstFound, anyIsFalse, answerOf, taken, takenWords}
 use Rattle.reference.specs.Steps.{badLengths, badMatches, badEntry, ownRefusals, refusals, clearTables, accepted, outcome, step, Outcome}

@@ -14,8 +14,8 @@ use Rattle.cover.proofs.Image.{image-none}
 use Rattle.reference.specs.Entry.{empty, emptyWord, wordOf}
 use Rattle.reference.specs.Array.{emptied, entryAt, Sound}
 use Rattle.reference.specs.Image.{entryRows, covers, arrayCover, tablesOf}
-use Rattle.reference.proofs.Entries.{empty-fits}
 use Rattle.reference.specs.Steps.{clearTables}
+use Rattle.reference.proofs.Entries.{empty-fits}
 
 entry-of-emptied : (g : Geometry) (a : ℕ) → entryAt (emptied g) a ≡ empty
 unfolding emptied

@@ -7,22 +7,22 @@ use mathlib.Core.Logic.{_↔_, _⊎_, inl, inr}
 use mathlib.Core.Bool.{true}
 use mathlib.Core.List.{List, [], _∷_, map, zipWith}
 use lib.Seq.{ext-getD}
+use Rattle.machines.specs.Refusals.{firstRefusal, Passed, FirstApplies}
+use Rattle.machines.specs.Machine as machine
+use Rattle.machines.proofs.Runs.{Keeps, Together, together}
+use Rattle.machines.proofs.Refusals.{passed-none, refusal-first, first-refusal, Each, given-says}
 use Rattle.geometry.specs.declared.Geometry.{Geometry}
 use Rattle.geometry.proofs.Facts.{facts}
 use Rattle.reference.specs.Entry.{empty}
 use Rattle.reference.specs.Calls.{Call, clear, write, erase, read, firstMatch, allMatch, shape, lent, matchesAfter, Answer, refused, cleared}
-use Rattle.machines.specs.Refusals.{firstRefusal, Passed, FirstApplies}
 use Rattle.reference.specs.Array.{Array, emptied, entryAt, Sound, arrayRefusals, ArrayOutcome, arrayAccepted, arrayOutcome, arrayStep}
 use Rattle.reference.specs.Tables.{Tables, storeEntry}
 use Rattle.reference.specs.Image.{tablesOf}
 use Rattle.reference.specs.Steps.{badMatches, refusals, accepted, outcome, step, Outcome}
-use Rattle.machines.specs.Machine as machine
-use Rattle.machines.proofs.Runs.{Keeps, Together, together}
 use Rattle.reference.specs.History.{History, onTables, onArray, run, after, arrayOf}
 use Rattle.reference.specs.Statements.{Begun, Follows}
 use Rattle.reference.proofs.Image.{store-entry}
 use Rattle.reference.proofs.Emptied.{emptied-sound, cleared-tables}
-use Rattle.machines.proofs.Refusals.{passed-none, refusal-first, first-refusal, Each, given-says}
 use Rattle.reference.proofs.Refused.{given-exactly, not-refused, passed-valid, matches-after}
 use Rattle.reference.proofs.Agreement.{same-refusals, agrees}
 

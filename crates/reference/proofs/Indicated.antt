@@ -12,8 +12,8 @@ use Rattle.geometry.specs.Stages.{stages, stage, rowOf, rows}
 use Rattle.geometry.proofs.Facts.{Facts}
 use Rattle.geometry.proofs.Places.{length-pos, length-single}
 use Rattle.geometry.proofs.Stages.{stage-lt, row-lt}
-use Rattle.reference.specs.Tables.{Tables, storeWord, storeEntry}
 use Rattle.cover.specs.Image.{covered}
+use Rattle.reference.specs.Tables.{Tables, storeWord, storeEntry}
 use Rattle.reference.specs.Image.{covers, storeCover}
 use Rattle.reference.specs.Search.{indicated}
 use Rattle.reference.specs.Statements.{Mirrors, stores}

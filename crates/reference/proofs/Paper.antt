@@ -18,12 +18,12 @@ use Rattle.geometry.specs.Stages.{stages, stageWidth, stage, rowOf, rowsOf, row
 use Rattle.geometry.proofs.Facts.{Facts, facts}
 use Rattle.geometry.proofs.Places.{address-past, alone-address, alone-set}
 use Rattle.geometry.proofs.Stages.{row-lt, row-among, one-stage-kind, one-row, one-stage}
-use Rattle.reference.specs.Entry.{Entry, empty, pattern, Fits, holds}
-use Rattle.reference.specs.Calls.{write, erase, held}
-use Rattle.reference.specs.Array.{Array, entryAt, Sound}
 use Rattle.cover.specs.Image.{cell, covered, image}
 use Rattle.cover.specs.Change.{othersCover}
 use Rattle.cover.proofs.Image.{image-cell, image-bit}
+use Rattle.reference.specs.Entry.{Entry, empty, pattern, Fits, holds}
+use Rattle.reference.specs.Calls.{write, erase, held}
+use Rattle.reference.specs.Array.{Array, entryAt, Sound}
 use Rattle.reference.specs.Tables.{Tables, storeWord, storeEntry}
 use Rattle.reference.specs.Image.{covers, entryRows, arrayCover, storeCover}
 use Rattle.reference.specs.Steps.{ownRefusals, refusals, step}

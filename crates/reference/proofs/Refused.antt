@@ -9,16 +9,16 @@ use mathlib.Core.Option as Option
 use mathlib.Core.Option.{Option}
 use lib.ListN.{length}
 use borrow.Author.Tests.{not-false}
+use Rattle.machines.specs.Refusals.{firstRefusal, Passed, FirstApplies}
+use Rattle.machines.proofs.Refusals.{passes, refusal-first, first-refusal}
 use Rattle.geometry.specs.declared.Geometry.{Geometry}
 use Rattle.geometry.specs.Valid.{valid}
 use Rattle.geometry.specs.Stages.{indicatorWords}
 use Rattle.reference.specs.Calls.{Call, clear, write, erase, read, firstMatch, allMatch, lent, matchesAfter, Answer, refused, cleared, held, at, none, matched}
-use Rattle.machines.specs.Refusals.{firstRefusal, Passed, FirstApplies}
-use Rattle.machines.proofs.Refusals.{passes, refusal-first, first-refusal}
 use Rattle.reference.specs.Tables.{Tables}
 use Rattle.reference.specs.Search.{Found, hit, nothing, falseSet, isFalse, firstFound, answerOf}
-use Rattle.reference.proofs.Limits.{lengths-pass}
 use Rattle.reference.specs.Steps.{badLengths, badMatches, ownRefusals, refusals, accepted, outcome, step}
+use Rattle.reference.proofs.Limits.{lengths-pass}
 
 -- whether an answer is a refusal number
 abbrev pub isNumber : Answer → Bool

@@ -10,6 +10,8 @@ use lib.Seq.{getD-set-same, getD-set-other}
 use borrow.Author.Tests.{eqb-true}
 use Rattle.words.specs.Rules.{member}
 use Rattle.words.proofs.Rules.{any-witness, member-tabulate}
+use Rattle.machines.specs.Refusals.{Passed}
+use Rattle.machines.proofs.Refusals.{passed-none}
 use Rattle.geometry.specs.declared.Geometry.{Geometry}
 use Rattle.geometry.specs.Stages.{stages, stage, rowOf, rowsOf, rows, indicatorWords}
 use Rattle.geometry.proofs.Facts.{Facts, facts}
@@ -17,7 +19,6 @@ use Rattle.geometry.proofs.Stages.{stage-lt, row-lt}
 use Rattle.cover.proofs.Moved.{length-moved, moved-cell}
 use Rattle.reference.specs.Entry.{Entry, empty, pattern, wordOf}
 use Rattle.reference.specs.Calls.{Call, write, erase, read, held}
-use Rattle.machines.specs.Refusals.{Passed}
 use Rattle.reference.specs.Refusals.{badAddress}
 use Rattle.reference.specs.Tables.{Tables, storeWord, storeEntry}
 use Rattle.reference.specs.Image.{entryRows, covers, storeCover}
@@ -25,7 +26,6 @@ use Rattle.reference.specs.Statements.{EveryBit}
 use Rattle.reference.specs.Update.{replaced}
 use Rattle.reference.specs.Steps.{badEntry, ownRefusals, refusals, accepted, outcome, step}
 use Rattle.reference.proofs.Limits.{address-passes, passed-entry}
-use Rattle.machines.proofs.Refusals.{passed-none}
 use Rattle.reference.proofs.Refused.{not-refused, passed-valid, passed-lengths}
 
 -- what an entry covers is a row of the indicators

@@ -16,15 +16,15 @@ use Rattle.words.specs.Seek.{Sought, found, missed}
 use Rattle.words.proofs.Rules.{any-witness, any-true, refuted, member-tabulate, first-unique}
 use Rattle.words.proofs.Bits.{bit-and, bit-mask, mask-lt, ones-below}
 use Rattle.words.proofs.Seek.{seek-found, seek-missed, row-word, row-first, row-nowhere}
+use Rattle.machines.specs.Refusals.{_given-when_, firstRefusal}
 use Rattle.geometry.specs.declared.Geometry.{Geometry}
 use Rattle.geometry.specs.Valid.{valid, segmented}
 use Rattle.geometry.specs.Sizes.{patterns, sets, rowWords, matchWords, setOf, addressOf, setLength}
 use Rattle.geometry.specs.Stages.{stages, rowOf, rowsOf, indicatorWords}
 use Rattle.geometry.proofs.Facts.{Facts, facts}
 use Rattle.geometry.proofs.Places.{sets-most, matches-most}
-use Rattle.reference.specs.Calls.{firstMatch, allMatch, none, refused, matched}
-use Rattle.machines.specs.Refusals.{_given-when_, firstRefusal}
 use Rattle.cover.specs.Image.{cell}
+use Rattle.reference.specs.Calls.{firstMatch, allMatch, none, refused, matched}
 use Rattle.reference.specs.Tables.{Tables, storeWord}
 use Rattle.reference.specs.Search.{joined, indicated, seekWord, seekEntry, lowestSet, Found, hit, nothing, falseSet, isFalse, inSet, firstFound, anyIsFalse, answerOf, taken, takenWords}
 use Rattle.reference.specs.Steps.{badMatches, ownRefusals, refusals, accepted, outcome, step}

@@ -11,11 +11,11 @@ use Rattle.geometry.specs.declared.Geometry.{Geometry}
 use Rattle.geometry.specs.Valid.{segmented, valid}
 use Rattle.geometry.specs.Sizes.{sets, rowWords, matchWords, setOf, offsetOf, addressOf, setLength}
 use Rattle.geometry.specs.Stages.{stages, stageWidth, stage, rows, indicatorWords}
+use Rattle.cover.specs.Image.{cell, belongs, covered}
+use Rattle.cover.specs.Change.{othersCover}
 use Rattle.reference.specs.Entry.{Entry, empty, pattern, wordOf, holds}
 use Rattle.reference.specs.Calls.{Answer, refused, at, none, matched, shape, lent, matchesAfter}
 use Rattle.reference.specs.Array.{Array, Sound}
-use Rattle.cover.specs.Image.{cell, belongs, covered}
-use Rattle.cover.specs.Change.{othersCover}
 use Rattle.reference.specs.Tables.{Tables, storeWord, storeEntry}
 use Rattle.reference.specs.Image.{covers, storeCover, tablesOf}
 use Rattle.reference.specs.Search.{indicated, taken}

@@ -7,13 +7,13 @@ use mathlib.Core.Option.{Option}
 use lib.Dec.{eqb, ltb}
 use lib.ListN.{length, replicate}
 use Rattle.words.specs.Bits.{totalOnes}
+use Rattle.machines.specs.Refusals.{RefusalRow, _given-when_, firstRefusal}
 use Rattle.geometry.specs.declared.Geometry.{Geometry}
 use Rattle.geometry.specs.Valid.{valid}
 use Rattle.geometry.specs.Sizes.{patterns, matchWords}
 use Rattle.geometry.specs.Stages.{indicatorWords, tablesFit}
 use Rattle.reference.specs.Entry.{empty, pattern, emptyWord}
 use Rattle.reference.specs.Calls.{Call, clear, write, erase, read, firstMatch, allMatch, Answer, refused, cleared, held, matched, lent}
-use Rattle.machines.specs.Refusals.{RefusalRow, _given-when_, firstRefusal}
 use Rattle.reference.specs.Refusals.{badAddress, badPattern}
 use Rattle.reference.specs.Tables.{Tables, storeWord, storeEntry}
 use Rattle.reference.specs.Update.{replaced}

@@ -15,8 +15,8 @@ ghost use mathlib.Core.Path.{_≡_};
 ghost use mathlib.Core.List.{[]};
 ghost use lib.ListN.{length};
 ghost use Rattle.geometry.specs.Sizes.{rowWords};
-ghost use Rattle.checks.specs.Passed.{Lent};
 ghost use Rattle.reference.specs.Search.{joined, firstFound, answerOf};
+ghost use Rattle.checks.specs.Passed.{Lent};
 ghost use Rattle.calls.specs.Answers.{answerFor, tables};
 
 // A word of the key's rows, joined with and; padding bits are dropped.

@@ -19,16 +19,16 @@ use Rattle.geometry.specs.Stages.{stages, rowOf, rowsOf}
 use Rattle.geometry.proofs.Facts.{facts}
 use Rattle.geometry.proofs.Places.{set-lt, address-lt, word-lt}
 use Rattle.geometry.proofs.Stages.{rows-drop}
-use Rattle.sizes.specs.declared.Sizes.{Sizes}
-use Rattle.checks.specs.Passed.{Sized, Lent}
+use Rattle.cover.specs.Image.{Cover}
+use Rattle.cover.specs.Change.{change, othersCover, isReleased, moved}
 use Rattle.reference.specs.Entry.{Entry, empty, pattern, emptyWord, wordOf}
 use Rattle.reference.specs.Calls.{refused, held}
 use Rattle.reference.specs.Tables.{storeWord, storeEntry}
-use Rattle.cover.specs.Image.{Cover}
-use Rattle.cover.specs.Change.{change, othersCover, isReleased, moved}
 use Rattle.reference.specs.Image.{entryRows, covers, storeCover}
 use Rattle.reference.specs.Update.{replaced}
 use Rattle.reference.specs.Steps.{badEntry}
+use Rattle.sizes.specs.declared.Sizes.{Sizes}
+use Rattle.checks.specs.Passed.{Sized, Lent}
 use Rattle.calls.specs.Answers.{tables}
 use Rattle.calls.proofs.Tested.{entry-bad, entry-held}
 use Rattle.calls.proofs.Indexed.{word-within}

@@ -16,9 +16,9 @@ ghost use lib.ListN.{length};
 ghost use Rattle.words.specs.Rules.{keep};
 ghost use Rattle.words.specs.Bits.{setBit, clearBit};
 ghost use Rattle.geometry.specs.Sizes.{sets, setOf};
-ghost use Rattle.checks.specs.Passed.{Sized, Lent};
 ghost use Rattle.cover.specs.Change.{change, othersCover, isReleased};
 ghost use Rattle.reference.specs.Image.{entryRows, covers, storeCover};
+ghost use Rattle.checks.specs.Passed.{Sized, Lent};
 ghost use Rattle.calls.specs.Answers.{entryFor, tables, left};
 ghost use Rattle.update.specs.Replacing.{replacing};
 

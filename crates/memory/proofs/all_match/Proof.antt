@@ -9,11 +9,11 @@ use Rattle.machines.specs.Refusals.{_given-when_}
 use Rattle.geometry.specs.Sizes.{matchWords}
 use Rattle.geometry.proofs.Facts.{facts}
 use Rattle.geometry.proofs.Places.{matches-least}
-use Rattle.checks.proofs.Rows.{Decides}
 use Rattle.reference.specs.Calls.{allMatch, lent}
 use Rattle.reference.specs.Refusals.{badPattern}
 use Rattle.reference.specs.Search.{anyIsFalse}
 use Rattle.reference.specs.Steps.{ownRefusals, refusals}
+use Rattle.checks.proofs.Rows.{Decides}
 use Rattle.calls.specs.Answers.{tables}
 use Rattle.collect.proofs.Marking.{length-marked}
 use Rattle.memory.proofs.Decided.{LentAs, matches-decide, pattern-decides}

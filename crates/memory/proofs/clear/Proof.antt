@@ -3,9 +3,9 @@ use mathlib.Core.Path.{refl, ap₂, _∙_}
 use mathlib.Core.List.{[]}
 use borrow.Author.Needs.{needs}
 use Rattle.machines.specs.Refusals.{firstRefusal}
-use Rattle.checks.proofs.Rows.{Decides}
 use Rattle.reference.specs.Calls.{clear, lent}
 use Rattle.reference.specs.Steps.{badMatches, ownRefusals, refusals, outcome}
+use Rattle.checks.proofs.Rows.{Decides}
 use Rattle.calls.specs.Answers.{tables, left}
 use Rattle.calls.specs.declared.Answer.the-variants.{Cleared}
 use Rattle.memory.proofs.Decided.{LentAs, tables-decide}

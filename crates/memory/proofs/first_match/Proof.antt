@@ -4,11 +4,11 @@ use mathlib.Core.Bool.{false}
 use mathlib.Core.List.{[], _∷_}
 use borrow.Author.Needs.{needs}
 use Rattle.machines.specs.Refusals.{_given-when_}
-use Rattle.checks.proofs.Rows.{Decides}
 use Rattle.reference.specs.Calls.{firstMatch, lent}
 use Rattle.reference.specs.Refusals.{badPattern}
 use Rattle.reference.specs.Search.{isFalse, firstFound}
 use Rattle.reference.specs.Steps.{badMatches, ownRefusals, refusals}
+use Rattle.checks.proofs.Rows.{Decides}
 use Rattle.calls.specs.Answers.{tables}
 use Rattle.memory.proofs.Decided.{LentAs, tables-decide, pattern-decides}
 use Rattle.memory.proofs.Outcomes.{refused-left, rest-left, first-left}

@@ -8,10 +8,10 @@ use borrow.Author.Needs.{needs}
 use borrow.Author.Tests.{leb-true, leb-false, le-ltb, eq-eqb, ne-eqb, not-true, not-false}
 use Rattle.geometry.specs.declared.Geometry.{Geometry}
 use Rattle.geometry.specs.Sizes.{sets}
-use Rattle.checks.specs.Passed.{Sized}
-use Rattle.checks.proofs.Acceptance.{checked-sized, checked-refused}
 use Rattle.reference.specs.Line.{line}
 use Rattle.reference.proofs.Line.{true-line, line-refused}
+use Rattle.checks.specs.Passed.{Sized}
+use Rattle.checks.proofs.Acceptance.{checked-sized, checked-refused}
 use Rattle.memory.specs.Lines.{HandsBack}
 use Rattle.memory.proofs.line.Statement.{statement}
 use Rattle.memory.proofs.line.Tie as tie

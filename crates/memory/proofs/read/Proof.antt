@@ -5,12 +5,12 @@ use mathlib.Core.List.{[], _∷_}
 use native.Mathlib.Omega.{arith}
 use borrow.Author.Needs.{needs}
 use Rattle.machines.specs.Refusals.{_given-when_}
-use Rattle.checks.specs.Passed.{Sized}
-use Rattle.checks.proofs.Rows.{Decides}
 use Rattle.reference.specs.Calls.{read, lent}
 use Rattle.reference.specs.Refusals.{badAddress}
 use Rattle.reference.specs.Steps.{badMatches, badEntry, ownRefusals, refusals}
 use Rattle.reference.proofs.Limits.{address-passes}
+use Rattle.checks.specs.Passed.{Sized}
+use Rattle.checks.proofs.Rows.{Decides}
 use Rattle.calls.specs.Answers.{tables}
 use Rattle.calls.proofs.Tested.{entry-bad, entry-held}
 use Rattle.memory.proofs.Decided.{LentAs, tables-decide, address-decides}

@@ -9,10 +9,10 @@ use borrow.Author.Needs.{needs}
 use Rattle.words.specs.Rules.{keep}
 use Rattle.words.specs.Bits.{clearBit}
 use Rattle.geometry.specs.Stages.{stages, rowsOf}
+use Rattle.geometry.proofs.Stages.{rows-over}
 use Rattle.cover.specs.Change.{change}
 use Rattle.reference.specs.Image.{entryRows, storeCover}
 use Rattle.calls.specs.Answers.{entryFor, tables}
-use Rattle.geometry.proofs.Stages.{rows-over}
 use Rattle.update.proofs.RowsChanged.{rows-first, place-within, set-within, Left, change-first, change-none, change-end, givenUp, kept-by-next, others-decide, keep-end}
 use Rattle.update.proofs.clear_released.Statement.{statement}
 use Rattle.update.proofs.clear_released.Tie as tie

@@ -5,9 +5,9 @@ use lib.ListN.{length, drop}
 use borrow.Author.Needs.{needs}
 use Rattle.words.specs.Bits.{setBit}
 use Rattle.geometry.specs.Stages.{stages, rowsOf}
+use Rattle.geometry.proofs.Stages.{rows-over}
 use Rattle.cover.specs.Change.{change}
 use Rattle.reference.specs.Image.{entryRows}
-use Rattle.geometry.proofs.Stages.{rows-over}
 use Rattle.update.proofs.RowsChanged.{rows-first, place-within, Left, change-first, change-end}
 use Rattle.update.proofs.set_rows.Statement.{statement}
 use Rattle.update.proofs.set_rows.Tie as tie

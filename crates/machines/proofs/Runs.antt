@@ -1,7 +1,7 @@
--- The induction over histories: what each call keeps, a history keeps; and that over chains: events that are each a call of a
+-- The inductions over histories and chains. What each call keeps or tells, a history does; and events that are each a call of a
 -- machine are its run.
 use mathlib.Core.Path.{_≡_, refl, ap, ap₂, _∙_}
-use mathlib.Core.List.{List, [], _∷_, map}
+use mathlib.Core.List.{List, [], _∷_, map, zipWith}
 use Rattle.machines.specs.Machine.{Machine, run, after}
 use Rattle.machines.specs.Chain.{Chain, ended, next, last}
 
@@ -30,6 +30,14 @@ module _ {S C L T D K A : Type 0} (m : Machine S C L) (n : Machine T D K) (told 
       let k = keeps s t r c in
       let rest = together keeps (nextState m s c) (nextState n t (told c)) (k .related) cs in
       record { answers = ap₂ (λ (x : A) (xs : List A). x ∷ xs) (k .answer) (rest .answers); ends = rest .ends }
+
+-- what is told of each call and what it leaves, whatever the state, is told of a whole history
+pub run-each : {S C L A B D : Type 0} (m : Machine S C L) (f : L → A) (h : B → D → A) (p : L → B) (q : C → D)
+    → ((s : S) (c : C) → f (m .step s c) ≡ h (p (m .step s c)) (q c)) → (s : S) (cs : List C)
+    → map f (run m s cs) ≡ zipWith h (map p (run m s cs)) (map q cs)
+unfolding run zipWith
+run-each m f h p q tells s [] = refl
+run-each {A = A} m f h p q tells s (c ∷ cs) = ap₂ (λ (x : A) (xs : List A). x ∷ xs) (tells s c) (run-each m f h p q tells (nextState m s c) cs)
 
 -- `call` is the call of an event, `answer` what came back and `state` what it left.
 module _ {S C L X A : Type 0} (m : Machine S C L) (seen : L → A) (call : X → C) (answer : X → A) (state : X → S) where

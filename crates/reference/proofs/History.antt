@@ -5,11 +5,11 @@ use Prim.Native.Nat.{ℕ}
 use mathlib.Core.Path.{_≡_, refl, sym, ap, ap₂, _∙_}
 use mathlib.Core.Logic.{_↔_, _⊎_, inl, inr}
 use mathlib.Core.Bool.{true}
-use mathlib.Core.List.{List, [], _∷_, map, zipWith}
+use mathlib.Core.List.{List, _∷_, map, zipWith}
 use lib.Seq.{ext-getD}
 use Rattle.machines.specs.Refusals.{firstRefusal, Passed, FirstApplies}
 use Rattle.machines.specs.Machine as machine
-use Rattle.machines.proofs.Runs.{Keeps, Together, together}
+use Rattle.machines.proofs.Runs.{Keeps, Together, together, run-each}
 use Rattle.machines.proofs.Refusals.{passed-none, refusal-first, first-refusal, Each, given-says}
 use Rattle.geometry.specs.declared.Geometry.{Geometry}
 use Rattle.geometry.proofs.Facts.{facts}
@@ -30,9 +30,7 @@ use Rattle.reference.proofs.Agreement.{same-refusals, agrees}
 
 matches-follow : (g : Geometry) (t : Tables) (cs : History)
     → map (λ (o : Outcome). o .matches) (run g t cs) ≡ zipWith matchesAfter (map (λ (o : Outcome). o .answer) (run g t cs)) (map lent cs)
-unfolding machine.run zipWith
-matches-follow g t [] = refl
-matches-follow g t (c ∷ cs) = ap₂ (λ (x : List ℕ) (xs : List (List ℕ)). x ∷ xs) (matches-after g t c) (matches-follow g (step g t c .tables) cs)
+matches-follow g = run-each (onTables g) _ matchesAfter _ lent (matches-after g)
 
 module _ (g : Geometry) where
   -- one call, on the tables and on the array

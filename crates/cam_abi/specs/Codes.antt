@@ -36,7 +36,7 @@ valueTold (read a) v m = held (entryIn v)
 valueTold (firstMatch key) v m = placeIn (v % 65536) (v / 65536 % 65536) (v / 4294967296)
 valueTold (allMatch key lent) v m = matched m v
 
--- And the number.
+-- The answer that a number gives back.
 unfoldable pub told : Call (List ℕ) → (number : ℕ) → (matches : List ℕ) → Answer
 told c n m = cond (ltb n 256) (refused n) (valueTold c (n - 256) m)
 

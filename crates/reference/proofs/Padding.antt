@@ -26,7 +26,7 @@ padding-free g ok t mirrors ind differ = record {
   bits = λ r s hr hs.
       let f = facts g ok in
       let hj = word-lt g f s hs in
-      differ .bits (rowWords g * r + s / 64) (s % 64) (place-lt g f r (s / 64) hr hj) (rw (word-of-place g f r (s / 64) hj) (omega arith))
+      differ .bits (rowWords g * r + s / 64) (s % 64) (place-lt g f r (s / 64) hr hj) (omega arith) (rw (word-of-place g f r (s / 64) hj) (omega arith))
       ∙ mirrors .bits r s hr hs;
 }
 

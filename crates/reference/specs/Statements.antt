@@ -75,10 +75,11 @@ pub record Mirrors (g : Geometry) (t : Tables) : Type 0 where
   pub words : length (t .indicators) ≡ indicatorWords g
   pub bits : (r s : ℕ) → r < rows g → s < sets g → cell g (t .indicators) r (s / 64) (s % 64) ≡ covered g (storeCover g t) r s
 
--- Indicators that differ from others in padding bits alone: bit b of word m belongs to a set where that number is below the sets.
+-- Other indicators, which differ in padding bits alone. Bit b of word m is that of set 64 × (m mod R) + b: where there is such a set,
+-- the bit is the same.
 pub record DifferInPadding (g : Geometry) (ind others : List ℕ) : Type 0 where
   pub words : length others ≡ length ind
-  pub bits : (m b : ℕ) → m < indicatorWords g → 64 * (m % rowWords g) + b < sets g → bit (getD others m 0) b ≡ bit (getD ind m 0) b
+  pub bits : (m b : ℕ) → m < indicatorWords g → b < 64 → 64 * (m % rowWords g) + b < sets g → bit (getD others m 0) b ≡ bit (getD ind m 0) b
 
 -- A first-match answers with the lowest address that has the key, with document 01's w and c; or none, and no address
 -- has it.

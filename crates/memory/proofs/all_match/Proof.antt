@@ -21,7 +21,18 @@ use Rattle.memory.proofs.Outcomes.{refused-left, rest-left, false-left,
 use Rattle.memory.proofs.all_match.Statement.{statement}
 use Rattle.memory.proofs.all_match.Tie as tie
 
-decided : (k : tie.After-and-pattern) → let x = k .before .before .before .before .before .args in
+-- where the function starts; from where the check is known, where its last row was tested; and where that is known, from the
+-- match word of zeros
+abbrev start : tie.After-and-pattern → tie.Start
+start k = k .before .before .before .before .before
+
+abbrev tested : tie.After-checked → tie.After-and-pattern
+tested k = k .before .before
+
+abbrev accepted : tie.After-zero-all → tie.After-checked
+accepted z = z .before .before .before .before .before
+
+decided : (k : tie.After-and-pattern) → let x = start k .args in
     let t = tables (x .store .now) (x .indicators .now) in
     Decides (refusals (x .g) t (allMatch (x .key) (x .matches .now))) (k .and-pattern .result) (6 given-when anyIsFalse (x .g) t (x .key) ∷ [])
     (λ z. (LentAs (x .g) t z × (length (x .matches .now) ≡ matchWords (x .g))) × (badPattern (x .g) (x .key) ≡ false))
@@ -29,27 +40,27 @@ unfolding ownRefusals
 decided k = pattern-decides _ _ (λ z s. s .0 .sized) (k .and-pattern .ensures) (matches-decide _ _ _ _ (k .before .matches .ensures))
 
 -- the lengths, where the check accepted
-lent-at : (k : tie.After-checked) → let x = k .before .before .before .before .before .before .before .args in
+lent-at : (k : tie.After-checked) → let x = start (tested k) .args in
     LentAs (x .g) (tables (x .store .now) (x .indicators .now)) (k .checked .given .0 .0) × (length (x .matches .now) ≡ matchWords (x .g))
-lent-at k = decided (k .before .before) .shown _ (k .checked .given .1) .0
+lent-at k = decided (tested k) .shown _ (k .checked .given .1) .0
 
 returns : tie.Need-returns
 returns c =
     let k = c .before .before .before in
-    false-left _ _ _ _ _ (sym (c .before .any-is-false .ensures) ∙ c .if1 .taken) ∙ rest-left _ _ _ (allMatch _ _) (decided (k .before .before)) (k .checked .given .1)
+    false-left _ _ _ _ _ (sym (c .before .any-is-false .ensures) ∙ c .if1 .taken) ∙ rest-left _ _ _ (allMatch _ _) (decided (tested k)) (k .checked .given .1)
 
 -- the match word of zeros has its length
-zeroed : (z : tie.After-zero-all) → length (z .zero-all .last .0) ≡ matchWords (z .before .before .before .before .before .before .before .before .before .before .before .before .args .g)
-zeroed z = ap length (z .zero-all .ensures) ∙ length-replicate _ _ ∙ lent-at (z .before .before .before .before .before) .1
+zeroed : (z : tie.After-zero-all) → length (z .zero-all .last .0) ≡ matchWords (start (tested (accepted z)) .args .g)
+zeroed z = ap length (z .zero-all .ensures) ∙ length-replicate _ _ ∙ lent-at (accepted z) .1
 
 take-all-requires : tie.Need-take-all-requires
-take-all-requires c κs = let z = c .before .before .before in (lent-at (z .before .before .before .before .before) .0, zeroed z)
+take-all-requires c κs = let z = c .before .before .before in (lent-at (accepted z) .0, zeroed z)
 
 total-ones-requires : tie.Need-total-ones-requires
 total-ones-requires c κs =
     let t = c .before .before .before in
     let z = t .before .before .before .before in
-    let f = facts _ (lent-at (z .before .before .before .before .before) .0 .sized .is-valid) in
+    let f = facts _ (lent-at (accepted z) .0 .sized .is-valid) in
     omega (arith, matches-least _ f, f .depth-most, ap length (t .take-all .ensures) ∙ length-marked _ _ ∙ zeroed z)
 
 returns-2 : tie.Need-returns-2
@@ -60,7 +71,7 @@ returns-2 c =
     let k = e .before .before .before in
     matched-left _ _ _ _ _ _ _ _ (sym (e .before .any-is-false .ensures) ∙ e .if1 .left) (t .take-all .ensures) (z .zero-all .ensures) (lent-at k .1)
     (c .total-ones .ensures)
-    ∙ rest-left _ _ _ (allMatch _ _) (decided (k .before .before)) (k .checked .given .1)
+    ∙ rest-left _ _ _ (allMatch _ _) (decided (tested k)) (k .checked .given .1)
 
 returns-3 : tie.Need-returns-3
 unfolding lent

@@ -21,7 +21,7 @@ pub record Steps (g : Geometry) (t : Tables) (x : Run) : Type 0 where
   pub matches : x .matches ≡ matchesAfter (x .answer) (x .lent)
 
 -- what a call's outcome tells
-pub outcome-steps : {g : Geometry} {t : Tables} {c : Call (List ℕ)} {o : Outcome} → o ≡ step g t c → {l : List ℕ}
+outcome-steps : {g : Geometry} {t : Tables} {c : Call (List ℕ)} {o : Outcome} → o ≡ step g t c → {l : List ℕ}
     → step g t c .matches ≡ matchesAfter (step g t c .answer) l
     → Steps g t (record { call = c; lent = l; answer = o .answer; tables = o .tables; matches = o .matches })
 outcome-steps e kept = record {

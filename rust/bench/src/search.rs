@@ -13,8 +13,8 @@ pub enum Search<'a> {
     LoopBySixteens(&'a [u32]),
 }
 
-/// Half of the keys are absent, the rest spread evenly over the stored patterns; in an order that
-/// cannot be foreseen.
+/// Every second key is a stored pattern, each of them as often as the next, and the others are
+/// absent; then all are shuffled, so that their order cannot be foreseen.
 pub fn keys(memory: &Memory, count: u32) -> Vec<u32> {
     let stored = memory.stored();
     let mut keys: Vec<u32> = (0..count)
@@ -33,7 +33,7 @@ pub fn keys(memory: &Memory, count: u32) -> Vec<u32> {
     keys
 }
 
-/// From address 0 to the first equal entry.
+/// The smallest address that has the key, by asking one after the other.
 #[inline(never)]
 fn plain_loop(store: &[u32], key: u32) -> u32 {
     for (address, &entry) in store.iter().enumerate() {

@@ -27,7 +27,7 @@ pub struct Geometry {
     pub set_width: u32,
 }
 
-/// Why a call was refused, with the number that document 01 gives it.
+/// Why a call was refused, with its number in rule 9.1 of docs/MEMORY.md.
 #[derive(Clone, Copy, Debug, PartialEq, Eq)]
 pub enum Refusal {
     /// Kind, depth, pattern width or set width breaks a rule.
@@ -40,7 +40,7 @@ pub enum Refusal {
     Pattern = 4,
     /// The entry at the address is neither empty nor a pattern.
     Entry = 5,
-    /// An indicated set has no entry equal to the key.
+    /// A false set is in the way (rule 8.9).
     Set = 6,
 }
 
@@ -66,7 +66,7 @@ impl fmt::Display for Refusal {
 
 impl Error for Refusal {}
 
-/// What a first-match gives. Document 01's w is `words_read`, its c `entries_compared`.
+/// What a first-match gives. The w of rule 8.10 is `words_read`, its c `entries_compared`.
 #[derive(Clone, Copy, Debug, PartialEq, Eq)]
 pub struct FirstMatch {
     pub address: Option<u32>,

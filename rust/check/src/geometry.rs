@@ -1,4 +1,4 @@
-//! Document 01's 'Geometry', and the sizes that its 'Tables' gives.
+//! Geometries, and the sizes that follow from one: sections 2 to 4 of docs/MEMORY.md.
 
 use std::fmt;
 
@@ -24,9 +24,7 @@ pub const fn geometry(kind: u32, depth: u32, pattern_width: u32, set_width: u32)
 }
 
 impl Geometry {
-    /// "Depth D, 1 to 4,096 addresses. Pattern width P in bits: 1 to 12 for kinds 0 and 2, 1 to 27
-    /// for kind 1. Set width W, the addresses in a set: exactly 1 for kinds 0 and 1; for kind
-    /// 2, 1 to 64 and a divisor of D."
+    /// Whether the four numbers break none of rules 2.2 to 2.4.
     pub fn is_valid(&self) -> bool {
         let (widest_pattern, widest_set) = match self.kind {
             TRANSPOSED => (12, 1),
@@ -40,39 +38,38 @@ impl Geometry {
             && self.depth % self.set_width == 0
     }
 
-    /// 2^P, which no pattern reaches.
+    /// 2^P, which is above every pattern (rule 2.3).
     pub fn patterns(&self) -> u32 {
         1 << self.pattern_width
     }
 
-    /// "There are C = D / W sets."
+    /// C (rule 2.6).
     pub fn sets(&self) -> usize {
         (self.depth / self.set_width) as usize
     }
 
-    /// "Address a lies in set a / W (rounded down)."
+    /// The set that an address belongs to (rule 2.5).
     pub fn set_of(&self, address: u32) -> usize {
         (address / self.set_width) as usize
     }
 
-    /// The addresses of a set, ascending.
+    /// The addresses of a set, the one at offset 0 first (rule 2.5).
     pub fn addresses_of(&self, set: usize) -> std::ops::Range<u32> {
         let first = set as u32 * self.set_width;
         first..first + self.set_width
     }
 
-    /// "A row has R words, C / 64 rounded up."
+    /// R (rule 3.4).
     pub fn row_words(&self) -> usize {
         self.sets().div_ceil(64)
     }
 
-    /// D / 64 rounded up, the length of a match word.
+    /// The length of a match word (rule 3.7).
     pub fn match_words(&self) -> usize {
         (self.depth as usize).div_ceil(64)
     }
 
-    /// Document 01's slices: in kind 1 "n = P / 9 rounded up"; in the others the pattern is one
-    /// piece.
+    /// The number of stages, n in kind 1 (rule 4.1).
     pub fn stages(&self) -> u32 {
         match self.kind {
             CASCADED => self.pattern_width.div_ceil(9),
@@ -80,7 +77,7 @@ impl Geometry {
         }
     }
 
-    /// "Slice k, from 0, has 2^(its width) rows"; "the last slice has P - 9 × (n - 1) bits".
+    /// A row for each value of the stage (rules 4.1 and 4.4).
     fn stage_rows(&self, stage: u32) -> usize {
         let last = stage + 1 == self.stages();
         let width = match (self.kind, last) {
@@ -91,14 +88,14 @@ impl Geometry {
         1 << width
     }
 
-    /// R × all rows, the length of the indicators.
+    /// The length of the indicators (rule 3.3).
     pub fn indicator_words(&self) -> usize {
         let rows: usize = (0..self.stages()).map(|k| self.stage_rows(k)).sum();
         self.row_words() * rows
     }
 
-    /// The value of a stage of the pattern: nine bits "from the low end", in kinds 0 and 2 the
-    /// whole pattern.
+    /// The value of a stage of the pattern (rule 4.2). In a last stage of fewer than nine bits the
+    /// remainder by 512 is the same, as no pattern has bits above them.
     pub fn stage_value(&self, pattern: u32, stage: u32) -> usize {
         match self.kind {
             CASCADED => (pattern >> (9 * stage)) as usize % 512,
@@ -106,9 +103,7 @@ impl Geometry {
         }
     }
 
-    /// The word at which the row of a pattern's stage begins: in kinds 0 and 2 "word j of row p is
-    /// number R × p + j"; in kind 1 slice k "starts at word R × 512 × k; its row r begins R × r
-    /// words later".
+    /// Where in the indicators the row begins that a pattern has in a stage (rule 4.3).
     pub fn row_start(&self, pattern: u32, stage: u32) -> usize {
         let r = self.row_words();
         r * 512 * stage as usize + r * self.stage_value(pattern, stage)

@@ -1,8 +1,8 @@
-//! The checking program. It holds the library's calls and the program `camrun` to document 01,
-//! which is written out here a second time. `family` says what a family of calls is, `binary` is
-//! the family of the six calls, `jobs` has the job files and what is printed for them. It runs the
-//! cases of the paper, examples from other papers, random histories from an accepted clear, random
-//! single calls on damaged tables, and random jobs.
+//! The checking program. It holds the library's calls and the program `camrun` to a second writing
+//! of docs/MEMORY.md, whose rules are cited by number. `family` says what a family of calls is,
+//! `binary` is the family of the six calls, `jobs` has the job files and what is printed for them.
+//! It runs the cases of docs/MEMORY.md, examples from elsewhere, random histories from an accepted
+//! clear, random single calls on damaged tables, and random jobs.
 
 mod binary;
 mod coverage;
@@ -77,7 +77,7 @@ fn run_only(options: &Options, parts: &[Box<dyn Part>]) -> Counts {
 }
 
 fn run_all(options: &Options, parts: &[Box<dyn Part>]) -> Counts {
-    let mut counts = run_scripts(options, "cases of document 01", cases::cases());
+    let mut counts = run_scripts(options, "cases of docs/MEMORY.md", cases::cases());
     counts.add(run_scripts(options, "outside vectors", vectors::vectors()));
     for part in parts {
         counts.add(part.run_all(options));

@@ -19,7 +19,7 @@ pub struct Names {
 }
 
 const FIRST_LINES: &str = "\
-check: runs the library and the program camrun beside document 01, written out a second time
+check: runs the library and the program camrun beside a second writing of docs/MEMORY.md
 
   --seed N           seed of the random trials (default 1)";
 

@@ -182,7 +182,7 @@ fn numbers<F: Family>(trial: &Trial<F>) -> BTreeSet<(Sort, u32)> {
     trial.calls.iter().flat_map(numbers_of).collect()
 }
 
-/// How far all addresses can move down together, each staying at its place in a set.
+/// How far all addresses can move down together, each staying at its offset.
 fn whole_sets_below<F: Family>(trial: &Trial<F>) -> Vec<u32> {
     let set_width = trial.geometry.set_width.max(1);
     let numbers = numbers(trial).into_iter();

@@ -1,10 +1,10 @@
-//! Document 01's 'Tables', and the match word, as a family may lend them; and the bits of the
-//! indicators.
+//! The two tables and the match word as a family may lend them, and the bits of the indicators:
+//! section 3 of docs/MEMORY.md.
 
 use crate::geometry::{Geometry, CASCADED};
 use crate::lent::{Content, Rule};
 
-/// "An empty address holds 4,294,967,295."
+/// The store's word for an empty address (rule 3.2).
 pub const EMPTY: u32 = 4_294_967_295;
 
 pub static STORE: Rule<u32> = Rule {
@@ -27,7 +27,7 @@ pub static INDICATORS: Rule<u64> = Rule {
     place: place_in_matrix,
 };
 
-/// "All-match is lent a match word of any length and content each time."
+/// An all-match may be lent one that does not fit, and whatever it holds (rule 10.1).
 pub static MATCH_WORD: Rule<u64> = Rule {
     name: "match word",
     word: "match word",
@@ -49,7 +49,7 @@ fn place_in_matrix(g: &Geometry, m: usize) -> String {
     }
 }
 
-/// "Bit b of word j, bit 0 worth 1, belongs to set 64 × j + b."
+/// The bit of a set in the row that begins at this word (rule 3.5).
 fn bit(words: &[u64], row_start: usize, set: usize) -> bool {
     words[row_start + set / 64] >> (set % 64) & 1 == 1
 }

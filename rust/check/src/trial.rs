@@ -16,7 +16,8 @@ pub struct Trial<F: Family> {
 }
 
 impl<F: Histories> Trial<F> {
-    /// What demand 3 speaks of: calls that begin with a clear on tables that it accepts.
+    /// What rule 10.2 of docs/MEMORY.md speaks of: calls that begin with a clear on tables that it
+    /// accepts.
     pub fn is_history(&self) -> bool {
         self.first_array().is_some()
     }
@@ -25,8 +26,8 @@ impl<F: Histories> Trial<F> {
         F::begin(&self.geometry, &self.before, self.calls.first()?)
     }
 
-    /// Every answer is the plain array's, and the tables at the end are those that belong to it.
-    /// The array runs first, by itself: no answer and no table is fed to it.
+    /// Every answer is the plain array's (rule 10.2), and at the end so are the tables (rule 10.3).
+    /// The array runs first, so that it cannot know what the library does.
     pub fn judge_history(&self, tally: &mut Tally) -> Result<(), String> {
         let mut array = self.first_array().expect("it is a history");
         let mut answers = Vec::new();
@@ -73,7 +74,7 @@ impl<F: Family> Trial<F> {
         }
     }
 
-    /// The answer and every word afterwards are those of the step on these tables.
+    /// The answer and every word afterwards are those of sections 8 and 9 on these tables.
     pub fn judge_single_call(&self, tally: &mut Tally) -> Result<(), String> {
         let call = &self.calls[0];
         let mut tables = self.before.clone();
@@ -112,7 +113,7 @@ impl<F: Family> Trial<F> {
     }
 }
 
-/// Document 01's notation: `kind 2, D 8, P 2, W 2: clear, 2:=1, match 1`.
+/// As section 15 has its cases: a geometry, a colon, and calls such as `clear, 2:=1, match 1`.
 impl<F: Family> fmt::Display for Trial<F> {
     fn fmt(&self, f: &mut fmt::Formatter) -> fmt::Result {
         const SHOWN: usize = 12;

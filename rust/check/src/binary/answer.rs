@@ -1,5 +1,5 @@
-//! What comes back from the six calls, as the exported functions put it into one number, and in
-//! words.
+//! What comes back from the six calls, as the exported functions put it into one number (rules 12.1
+//! to 12.3 of docs/MEMORY.md), and in words.
 
 use crate::binary::call::Call;
 use crate::family::AnyAnswer;
@@ -12,7 +12,7 @@ const NOWHERE: u64 = 65_535;
 pub enum Answer {
     Refused(u32),
     Cleared,
-    /// The former or read entry.
+    /// What the address had (rule 7.4).
     Entry(Option<u32>),
     At {
         address: u32,

@@ -1,11 +1,11 @@
-//! Document 01's 'The plain array'. It knows the geometry, and nothing of tables.
+//! The plain array, section 5 of docs/MEMORY.md. It knows the geometry, and nothing of tables.
 
 use crate::binary::answer::Answer;
 use crate::binary::call::Call;
 use crate::geometry::{Geometry, SEGMENTED};
 use crate::tables::MATCH_WORD;
 
-/// "Its state is D entries, each empty or a pattern."
+/// All that an array is (rule 5.1); `None` is an empty entry.
 #[derive(Clone)]
 pub struct Array {
     geometry: Geometry,
@@ -13,7 +13,7 @@ pub struct Array {
 }
 
 impl Array {
-    /// "It begins empty with the accepted clear."
+    /// The array that a history begins with (rule 10.2).
     pub fn empty(geometry: Geometry) -> Array {
         Array {
             geometry,
@@ -29,7 +29,8 @@ impl Array {
         &self.entries
     }
 
-    /// Of the match word that an all-match is lent, its length is looked at and nothing else.
+    /// The answer to a call. Nothing is looked at of the match word lent to an all-match but its
+    /// length (rule 5.8).
     pub fn call(&mut self, call: &Call) -> Answer {
         if let Some(number) = self.refusal(call) {
             return Answer::Refused(number);
@@ -44,7 +45,7 @@ impl Array {
         }
     }
 
-    /// "It refuses with 3, 4 and, for an all-match word of wrong length, 2, in the order below."
+    /// Its refusals, in their order (rule 5.8).
     fn refusal(&self, call: &Call) -> Option<u32> {
         if let Call::AllMatch { lent, .. } = call {
             if lent.len() != self.geometry.match_words() {
@@ -63,7 +64,7 @@ impl Array {
         None
     }
 
-    /// "Clear empties all."
+    /// Every entry becomes empty (rule 5.2).
     fn clear(&mut self) -> Answer {
         for entry in &mut self.entries {
             *entry = None;
@@ -71,17 +72,14 @@ impl Array {
         Answer::Cleared
     }
 
-    /// "Write a, p makes entry a equal to p and gives the former entry. Erase a empties entry a and
-    /// gives the former entry; erasing an empty address is accepted."
+    /// A write or, with `None`, an erase, whatever the address has (rule 5.3).
     fn replace(&mut self, address: u32, entry: Option<u32>) -> Answer {
         let previous = self.entries[address as usize];
         self.entries[address as usize] = entry;
         Answer::Entry(previous)
     }
 
-    /// "First-match p gives the lowest a whose entry is p, or none." "After a hit at a, w = a / (64
-    /// × W) rounded down, plus 1; c = a mod W + 1 in kind 2 and 0 in the others. After none, w
-    /// = R and c = 0."
+    /// The smallest address that has the key (rule 5.5), with w and c by formula (rule 5.7).
     fn first_match(&self, key: u32) -> Answer {
         let set_width = self.geometry.set_width;
         for address in 0..self.geometry.depth {
@@ -102,8 +100,8 @@ impl Array {
         }
     }
 
-    /// "All-match p gives D / 64 (rounded up) words, bit a mod 64 of word a / 64 set exactly when
-    /// entry a is p and all other bits 0, and the number of hits."
+    /// The bit of each address that has the key, placed as rule 3.7 says, and how many there are
+    /// (rule 5.6).
     fn all_match(&self, key: u32) -> Answer {
         let mut matches = vec![0; self.geometry.match_words()];
         let mut hits = 0;

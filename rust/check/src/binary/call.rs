@@ -1,4 +1,5 @@
-//! The six calls with all that each is given, in document 01's notation.
+//! The six calls with all that each is given (section 7 of docs/MEMORY.md), in the notation of its
+//! section 15.
 
 use crate::binary::answer::describe;
 use crate::family::{AnyCall, Sort, ADDRESS};
@@ -69,7 +70,7 @@ impl AnyCall for Call {
         }
     }
 
-    /// "Read and the matches write no table."
+    /// The other three leave both tables as they are (rule 8.5).
     fn writes_tables(&self) -> bool {
         matches!(self, Call::Clear | Call::Write { .. } | Call::Erase { .. })
     }

@@ -1,4 +1,5 @@
-//! The cases of document 01's 'Histories', with its numbers.
+//! The cases of section 15 of docs/MEMORY.md under the names they have there, those at the limits,
+//! and the calls of examples/listing.txt.
 
 use crate::binary::call::Call;
 use crate::binary::lines::{
@@ -6,13 +7,24 @@ use crate::binary::lines::{
 };
 use crate::geometry::{geometry, Geometry, CASCADED, SEGMENTED, TRANSPOSED};
 
-/// "S means kind 2, D 8, P 2, W 2. K means kind 1, D 2, P 10, W 1."
+/// The geometries that most cases have, under their names.
 const S: Geometry = geometry(SEGMENTED, 8, 2, 2);
 const K: Geometry = geometry(CASCADED, 2, 10, 1);
 
 pub fn cases() -> Vec<Script> {
-    let mut cases = vec![p1(), p2(), p3(), p4(), p5(), p6(), p7(), p8(), p9(), p10()];
-    cases.push(listing());
+    let mut cases = vec![
+        absent_pattern(),
+        pattern_zero(),
+        neighbour_holds_it(),
+        same_again(),
+        two_sets(),
+        mixed_stages(),
+        one_stage_changed(),
+        second_row_word(),
+        empty_erased(),
+        false_set(),
+        listing(),
+    ];
     cases.extend(depth_limits());
     cases.push(set_width_limit());
     cases.extend(address_limits());
@@ -28,36 +40,36 @@ fn on_k(name: &'static str, lines: Vec<Line>) -> Script {
     script(name, K, (2, 514), lines)
 }
 
-/// "P1: S, match 0: none, w 1, c 0."
-fn p1() -> Script {
+/// An empty address does not hold 0.
+fn absent_pattern() -> Script {
     on_s("P1", vec![clear(), none(0, 1, 0)])
 }
 
-/// "P2: S, 3:=0, match 0: at 3, w 1, c 2."
-fn p2() -> Script {
+/// 0 is a pattern like the others (rule 3.2).
+fn pattern_zero() -> Script {
     on_s("P2", vec![clear(), write(3, 0, None), at(0, 3, 1, 2)])
 }
 
-/// "P3: S, 2:=1, 3:=1, 3:=2, match 1: at 2, w 1, c 1."
-fn p3() -> Script {
+/// The last write leaves the bit of 1, which the other address of the set still has (rule 8.3).
+fn neighbour_holds_it() -> Script {
     let writes = [write(2, 1, None), write(3, 1, None), write(3, 2, Some(1))];
     on_s("P3", from_clear(writes, [at(1, 2, 1, 1)]))
 }
 
-/// "P4: S, 2:=1, 2:=1: formerly 1; match 1: at 2."
-fn p4() -> Script {
+/// The row that is set is not cleared afterwards: q is p (rule 8.3).
+fn same_again() -> Script {
     let writes = [write(2, 1, None), write(2, 1, Some(1))];
     on_s("P4", from_clear(writes, [at(1, 2, 1, 1)]))
 }
 
-/// "P5: S, 6:=3, 1:=3, match 3: at 1, w 1, c 2; all-match word 66, 2 hits."
-fn p5() -> Script {
+/// The smaller address is found, though it was written last (rule 5.5); both are hits (rule 5.6).
+fn two_sets() -> Script {
     let writes = [write(6, 3, None), write(1, 3, None)];
     on_s("P5", from_clear(writes, [at(3, 1, 1, 2), all(3, &[66], 2)]))
 }
 
-/// "P6: K, 0:=1, 1:=514: match 513 none; match 514 at 1, w 1, c 0."
-fn p6() -> Script {
+/// Each stage of 513 is that of some entry, but of two different ones (rule 8.6).
+fn mixed_stages() -> Script {
     let writes = [write(0, 1, None), write(1, 514, None)];
     on_k(
         "P6",
@@ -65,25 +77,25 @@ fn p6() -> Script {
     )
 }
 
-/// "P7: K, 0:=1, 0:=513: match 513 at 0; match 1 none."
-fn p7() -> Script {
+/// Stage 0 keeps its value and its bit, in stage 1 the bit moves (rule 8.3).
+fn one_stage_changed() -> Script {
     let writes = [write(0, 1, None), write(0, 513, Some(1))];
     on_k("P7", from_clear(writes, [at(513, 0, 1, 0), none(1, 1, 0)]))
 }
 
-/// "P8: kind 0, D 65, P 1, W 1, 64:=1, match 1: at 64, w 2, c 0."
-fn p8() -> Script {
+/// The only bit stands in word 1 of its row (rule 3.5), so w is 2 (rule 8.10).
+fn second_row_word() -> Script {
     let lines = from_clear([write(64, 1, None)], [at(1, 64, 2, 0)]);
     script("P8", geometry(TRANSPOSED, 65, 1, 1), (65, 4), lines)
 }
 
-/// "P9: S, erase 5: formerly empty."
-fn p9() -> Script {
+/// An address that has nothing may be erased (rule 5.3).
+fn empty_erased() -> Script {
     on_s("P9", vec![clear(), erase(5, None)])
 }
 
-/// "P10: S, word 1 of the indicators made 2 by hand, match 1: number 6."
-fn p10() -> Script {
+/// A bit that no entry stands behind, made by hand (rule 8.9).
+fn false_set() -> Script {
     let lines = from_clear([make(1, 2)], [refused(Call::FirstMatch { key: 1 }, 6)]);
     on_s("P10", lines)
 }
@@ -96,7 +108,7 @@ fn from_clear<const N: usize, const M: usize>(done: [Line; N], asked: [Line; M])
     lines
 }
 
-/// The commands of document 01's listing.
+/// The calls of examples/listing.txt.
 fn listing() -> Script {
     let lines = vec![
         clear(),
@@ -114,7 +126,7 @@ fn listing() -> Script {
     on_s("the listing", lines)
 }
 
-/// "D 4,096 passes, 4,097 gives 1", with tables as long as that depth would ask for.
+/// The largest depth, and one more (rule 2.3) with tables as long as it would ask for.
 fn depth_limits() -> Vec<Script> {
     let passes = || vec![clear(), write(4095, 1, None), read(4095, Some(1))];
     let refuses = || every_call_refused(65, 1);
@@ -130,13 +142,13 @@ fn depth_limits() -> Vec<Script> {
     ]
 }
 
-/// "K with W 2 gives 1."
+/// In kind 1 a set is one address (rule 2.4).
 fn set_width_limit() -> Script {
     let k_with_w_2 = geometry(CASCADED, 2, 10, 2);
     script("K with W 2", k_with_w_2, (2, 514), every_call_refused(1, 1))
 }
 
-/// "S, address 7 passes, 8 gives 3."
+/// The last address of S, and the number behind it (row 3 of rule 9.1).
 fn address_limits() -> Vec<Script> {
     let passes = [write(7, 1, None), read(7, Some(1)), erase(7, Some(1))];
     let refuses = [
@@ -150,7 +162,7 @@ fn address_limits() -> Vec<Script> {
     ]
 }
 
-/// "Pattern 3 passes, 4 gives 4."
+/// The largest pattern of S, and the number behind it (row 4 of rule 9.1).
 fn pattern_limits() -> Vec<Script> {
     let passes = [write(0, 3, None), at(3, 0, 1, 1), all(3, &[1], 1)];
     let refuses = [

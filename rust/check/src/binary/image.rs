@@ -1,4 +1,5 @@
-//! Document 01's 'Tables': the store and the indicators that belong to an array's entries.
+//! The tables of an array (rule 6.4 of docs/MEMORY.md): its entries as words of the store, and its
+//! image.
 
 use crate::binary::Tables;
 use crate::geometry::Geometry;
@@ -11,17 +12,13 @@ pub fn tables(geometry: &Geometry, entries: &[Option<u32>]) -> Tables {
     }
 }
 
-/// "An empty address holds 4,294,967,295", any other its pattern.
+/// The word of each entry (rule 3.2).
 fn store(entries: &[Option<u32>]) -> Vec<u32> {
     entries.iter().map(|entry| entry.unwrap_or(EMPTY)).collect()
 }
 
-/// "The image of an array: the bit of row p (in kind 1, of row p_k in slice k) and set s is 1
-/// exactly when some address in set s holds p (in kind 1, holds a pattern whose slice k is p_k).
-/// Spare bits are 0."
-///
-/// So every address marks the bits of what it holds, and no other bit is marked. "Bit b of word j,
-/// bit 0 worth 1, belongs to set 64 × j + b."
+/// The image (rules 6.1 to 6.3). Rule 6.1 turned round: in each row that it covers an entry marks
+/// the bit of its set (rule 3.5), and nothing else is marked, so that padding bits are 0.
 fn indicators(geometry: &Geometry, entries: &[Option<u32>]) -> Vec<u64> {
     let mut words = vec![0; geometry.indicator_words()];
     for (address, entry) in entries.iter().enumerate() {

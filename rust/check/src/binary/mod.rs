@@ -1,5 +1,5 @@
-//! The binary memory: document 01's six calls, its plain array and its steps, written out a second
-//! time.
+//! The binary memory, written a second time from docs/MEMORY.md: the six calls, on the plain array
+//! and on any tables.
 
 pub mod answer;
 pub mod array;
@@ -108,7 +108,7 @@ impl Histories for Binary {
     };
     const OF_HISTORIES: Required = required::OF_HISTORIES;
 
-    /// With a clear that is accepted.
+    /// With a clear that is accepted (rule 10.2).
     fn begin(g: &Geometry, before: &Tables, first: &Call) -> Option<Array> {
         let accepted = matches!(first, Call::Clear) && g.is_valid() && before.fit(g);
         accepted.then(|| Array::empty(*g))

@@ -1,5 +1,4 @@
-//! Document 01's 'Steps on any tables' and 'Where a call stops': every call on tables of any length
-//! and content.
+//! Every call on tables of any length and content: sections 8 and 9 of docs/MEMORY.md.
 
 use crate::binary::answer::Answer;
 use crate::binary::call::Call;
@@ -9,7 +8,7 @@ use crate::geometry::{Geometry, CASCADED, SEGMENTED};
 use crate::lent::AnyTables;
 use crate::tables::{clear_bit, in_every_row, set_bit, EMPTY, MATCH_WORD};
 
-/// "The number is all that comes back, and every table and output is as before the call."
+/// A refusal comes before the first write, so that the call leaves what it found (rule 9.2).
 pub fn step(g: &Geometry, tables: &mut Tables, call: &Call) -> Answer {
     if let Some(number) = refusal(g, tables, call) {
         return Answer::Refused(number);
@@ -24,32 +23,26 @@ pub fn step(g: &Geometry, tables: &mut Tables, call: &Call) -> Answer {
     }
 }
 
-/// "Rows are tested from the top; the first that applies is given."
+/// The table of rule 9.1, row by row.
 fn refusal(g: &Geometry, tables: &Tables, call: &Call) -> Option<u32> {
-    // "kind, D, P or W breaks a rule above"
     if !g.is_valid() {
         return Some(1);
     }
-    // "store not D, indicators not R × all rows, or match word not D / 64 rounded up"
     if !lengths_fit(g, tables, call) {
         return Some(2);
     }
-    // "address is D or more"
     if call.address().is_some_and(|a| a >= g.depth) {
         return Some(3);
     }
-    // "pattern is 2^P or more"
     if call.pattern().is_some_and(|p| p >= g.patterns()) {
         return Some(4);
     }
-    // "the entry at that address is neither empty nor below 2^P"
     if let Some(address) = call.address() {
         let entry = tables.store[address as usize];
         if entry != EMPTY && entry >= g.patterns() {
             return Some(5);
         }
     }
-    // "an indicated set (first-match: the first) has no entry equal to the key"
     if g.kind == SEGMENTED && meets_false_set(g, tables, call) {
         return Some(6);
     }
@@ -60,6 +53,7 @@ fn lengths_fit(g: &Geometry, tables: &Tables, call: &Call) -> bool {
     tables.fit(g) && call.lent().is_none_or(|lent| lent.fits(g))
 }
 
+/// Only the first indicated set matters to a first-match, every one to an all-match (rule 8.9).
 fn meets_false_set(g: &Geometry, tables: &Tables, call: &Call) -> bool {
     let is_false = |set: usize, key: u32| equal_entries(g, tables, set, key).is_empty();
     match *call {
@@ -73,17 +67,15 @@ fn meets_false_set(g: &Geometry, tables: &Tables, call: &Call) -> bool {
     }
 }
 
-/// "Clear makes every entry empty and every indicator word 0."
+/// All of both tables, padding bits too (rule 8.1).
 fn clear(tables: &mut Tables) -> Answer {
     tables.store.fill(EMPTY);
     tables.indicators.fill(0);
     Answer::Cleared
 }
 
-/// "Write a, p, with q the former entry and s its set, sets the bit of p and s. It clears the bit
-/// of q and s exactly when q is a pattern other than p and no other address of the set holds q.
-/// Then the store holds p at a. In kind 1 each slice sets row p_k and, if q is a pattern, clears
-/// row q_k where the two differ."
+/// The letters are those of rule 8.3. Where q is not empty it is a pattern: anything else was
+/// refused with 5.
 fn write(g: &Geometry, tables: &mut Tables, a: u32, p: u32) -> Answer {
     let q = tables.store[a as usize];
     let s = g.set_of(a);
@@ -103,8 +95,7 @@ fn write(g: &Geometry, tables: &mut Tables, a: u32, p: u32) -> Answer {
     entry_answer(q)
 }
 
-/// "Erase sets nothing, clears the bit of q (in kind 1 that of row q_k in every slice) exactly when
-/// q is a pattern that no other address of the set holds, and empties the entry."
+/// In kind 1 a set has no other address, so that the bits of all stages go (rule 8.4).
 fn erase(g: &Geometry, tables: &mut Tables, a: u32) -> Answer {
     let q = tables.store[a as usize];
     if q != EMPTY && !another_holds(g, tables, a, q) {
@@ -121,11 +112,8 @@ fn another_holds(g: &Geometry, tables: &Tables, a: u32, q: u32) -> bool {
         .any(|other| other != a && tables.store[other as usize] == q)
 }
 
-/// "First-match takes the row of the key (in kind 1 the slices' rows joined bit by bit with and).
-/// The lowest set bit names the set. In kind 2 the entries of that set are compared; in the others
-/// the set is the address." w counts the row words "ascending from word 0 up to the first that is
-/// not zero once spare bits are dropped", c the store entries compared, "ascending in the indicated
-/// set up to the equal one".
+/// The joined row is taken word by word up to the first indicated set (rule 8.7), and w and c are
+/// counted on the way (rule 8.10).
 fn first_match(g: &Geometry, tables: &Tables, key: u32) -> Answer {
     let mut words_read = 0;
     for word in 0..g.row_words() {
@@ -161,7 +149,7 @@ fn first_match(g: &Geometry, tables: &Tables, key: u32) -> Answer {
     }
 }
 
-/// "All-match takes every indicated set, and in kind 2 every equal entry in it."
+/// The hits, and the match word that has their bits alone (rule 8.8).
 fn all_match(g: &Geometry, tables: &Tables, key: u32) -> Answer {
     let mut matches = vec![0; g.match_words()];
     let mut hits = 0;
@@ -181,7 +169,7 @@ fn all_match(g: &Geometry, tables: &Tables, key: u32) -> Answer {
     }
 }
 
-/// "Bits for sets C and above are spare: ... ignored when read."
+/// Whether the bit of this number is 1 in the joined row, where padding bits are 0 (rule 8.6).
 fn is_indicated(g: &Geometry, tables: &Tables, key: u32, set: usize) -> bool {
     set < g.sets() && in_every_row(g, &tables.indicators, key, set)
 }

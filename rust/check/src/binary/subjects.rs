@@ -20,7 +20,7 @@ const ZERO_MISSED: Subject = "pattern 0 sought where no entry is 0 and some are 
 const STAGES_MIXED: Subject = "a key whose stages are all stored, but not in one entry";
 pub const CLEARED_LATER: Subject = "a clear of a memory that holds something";
 pub const LATER_WORD: Subject = "a first match after the first word of its row";
-pub const LATER_PLACE: Subject = "a first match after the first place of its set";
+pub const LATER_PLACE: Subject = "a first match past offset 0 of its set";
 pub const WORDS_OF_HITS: Subject = "hits in more than one match word";
 
 pub const OF_HISTORIES: &[Subject] = &[

@@ -1,4 +1,6 @@
-//! Examples from source documents 001 and 003, with their numbers.
+//! Examples from elsewhere with their own figures, in the words of docs/MEMORY.md. XAPP260 is the
+//! Xilinx application note of that number, version 1.1 of 2002; Abdelhadi stands for the doctoral
+//! thesis of A. M. S. Abdelhadi (University of British Columbia, 2016).
 
 use crate::binary::call::Call;
 use crate::binary::lines::{
@@ -7,7 +9,7 @@ use crate::binary::lines::{
 };
 use crate::geometry::{geometry, Geometry, CASCADED, SEGMENTED, TRANSPOSED};
 
-/// Source document 001's CAM32x9: 32 locations, nine bits of data, 512 words.
+/// XAPP260's CAM32x9: a location is an address, its nine bits of data are a pattern, so 512 rows.
 const CAM32X9: Geometry = geometry(TRANSPOSED, 32, 9, 1);
 
 pub fn vectors() -> Vec<Script> {
@@ -19,7 +21,7 @@ pub fn vectors() -> Vec<Script> {
     vectors
 }
 
-/// One CAM32x9 of source document 001.
+/// A single CAM32x9.
 fn one_macro() -> Vec<Script> {
     let cam32x9 = |name, lines| script(name, CAM32X9, (32, 512), lines);
     let one_match = vec![
@@ -40,11 +42,11 @@ fn one_macro() -> Vec<Script> {
         block_ram(&[0, 37, 226, 16_383]),
     ];
     vec![
-        cam32x9("001: data 7 at location 2", one_match),
-        cam32x9("001: data at seven locations", seven_locations()),
-        cam32x9("001: absent data", absent),
-        cam32x9("001: bits of the block RAM", bits),
-        cam32x9("001: new data over old, then erase", overwritten()),
+        cam32x9("XAPP260: data 7 at location 2", one_match),
+        cam32x9("XAPP260: data at seven locations", seven_locations()),
+        cam32x9("XAPP260: absent data", absent),
+        cam32x9("XAPP260: bits of the block RAM", bits),
+        cam32x9("XAPP260: new data over old, then erase", overwritten()),
     ]
 }
 
@@ -88,7 +90,7 @@ fn four_macros_deep() -> Script {
         indicators(&[(14, 0x4_0000_0000), (15, 0x4_0000_0000)]),
     ];
     let deep = geometry(TRANSPOSED, 128, 9, 1);
-    script("001: 128 locations", deep, (128, 1024), lines)
+    script("XAPP260: 128 locations", deep, (128, 1024), lines)
 }
 
 /// Two blocks for 18 bits: a match only if both nine-bit parts match. 2567 is 5 and 7, the low part
@@ -110,11 +112,11 @@ fn two_macros_wide() -> Script {
         all(2568, &[0], 0),
     ];
     let wide = geometry(CASCADED, 32, 18, 1);
-    script("001: 18 bits", wide, (32, 1024), lines)
+    script("XAPP260: 18 bits", wide, (32, 1024), lines)
 }
 
-/// Source document 003's pictures of one pattern: '10' at address 4 (figure 2.10); 4 in set 1 at
-/// offset 2 of a memory of 8 × 3 with sets of 4 (section 6.3).
+/// Abdelhadi's pictures of one pattern: binary 10 at address 4 (figure 2.10), and in a memory with
+/// D 8, P 3 and sets of 4 pattern 4 in set 1 at offset 2 (section 6.3).
 fn indicators_of_one_pattern() -> Vec<Script> {
     let by_address = vec![
         clear(),
@@ -132,29 +134,29 @@ fn indicators_of_one_pattern() -> Vec<Script> {
     let (transposed, segmented) = (geometry(TRANSPOSED, 8, 2, 1), geometry(SEGMENTED, 8, 3, 4));
     vec![
         script(
-            "003: pattern 2 at address 4",
+            "Abdelhadi: pattern 2 at address 4",
             transposed,
             (8, 4),
             by_address,
         ),
-        script("003: pattern 4 in set 1", segmented, (8, 8), by_set),
+        script("Abdelhadi: pattern 4 in set 1", segmented, (8, 8), by_set),
     ]
 }
 
-/// Source document 003's formula 5.1: depth 128 in sets of 2 has 64 sets, not 65, which would need
-/// a second word in each row.
+/// Abdelhadi's formula 5.1: depth 128 in sets of 2 has 64 sets, not 65, which would need a second
+/// word in each row.
 fn number_of_sets() -> Vec<Script> {
     let g = geometry(SEGMENTED, 128, 1, 2);
     let passes = vec![clear(), write(127, 1, None), at(1, 127, 1, 2)];
     let refuses = vec![refused(Call::Clear, 2)];
     vec![
-        script("003: 64 sets", g, (128, 2), passes),
-        script("003: not 65 sets", g, (128, 4), refuses),
+        script("Abdelhadi: 64 sets", g, (128, 2), passes),
+        script("Abdelhadi: not 65 sets", g, (128, 4), refuses),
     ]
 }
 
-/// Source document 003's lemma 6.2.1, with empty places allowed: the column of an address sums to 1
-/// if it is occupied.
+/// Abdelhadi's lemma 6.2.1, with empty addresses allowed: of all rows one has the bit of an address
+/// that is not empty.
 fn sums_of_addresses() -> Script {
     let lines = vec![
         clear(),
@@ -170,12 +172,12 @@ fn sums_of_addresses() -> Script {
         column_sums(&[1, 0, 0, 0, 1, 0, 0, 1]),
     ];
     let g = geometry(TRANSPOSED, 8, 3, 1);
-    script("003: column sums, 6.2.1", g, (8, 8), lines)
+    script("Abdelhadi: column sums, 6.2.1", g, (8, 8), lines)
 }
 
-/// Its theorem 6.2.2, with empty places allowed: the column of a set sums to the number of
-/// different patterns in it. Here set 0 holds 5 and 6, set 1 holds 0 twice, set 2 nothing, set 3
-/// four patterns.
+/// Abdelhadi's theorem 6.2.2, with empty addresses allowed: as many rows have the bit of a set as
+/// there are different patterns in it. Here set 0 holds 5 and 6, set 1 holds 0 twice, set 2
+/// nothing, set 3 four patterns.
 fn sums_of_sets() -> Script {
     let first = [
         (0, 5),
@@ -201,5 +203,5 @@ fn sums_of_sets() -> Script {
         column_sums(&[3, 0, 0, 3]),
     ]);
     let g = geometry(SEGMENTED, 16, 3, 4);
-    script("003: column sums, 6.2.2", g, (16, 8), lines)
+    script("Abdelhadi: column sums, 6.2.2", g, (16, 8), lines)
 }

@@ -16,7 +16,7 @@ use std::time::Duration;
 /// Between the pieces of a job, so that the program reads them one by one.
 const PAUSE: Duration = Duration::from_micros(500);
 
-/// What document 01 has `camrun` print for its listing.
+/// What `camrun` prints for examples/listing.txt.
 const LISTING: &str = "\
 kind 2 depth 8 width 2 set 2
 0 was -
@@ -48,7 +48,7 @@ pub fn judge(job: &Job, options: &Options, tally: &mut Tally) -> Result<(), Stri
     compare(job, &run(&options.camrun, job)?, &right)
 }
 
-/// Document 01's listing. Its text holds for the report of this program too.
+/// The job of examples/listing.txt. Its text holds for the report of this program too.
 pub fn judge_listing(options: &Options) -> Result<(), String> {
     let fields = [
         (1, 3, 1),

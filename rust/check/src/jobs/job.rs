@@ -1,4 +1,4 @@
-//! Document 01's 'Job files': the fields of a job, and the stops of a whole file.
+//! Job files, section 13 of docs/MEMORY.md: the fields of a job, and the stops of a whole file.
 
 use crate::binary::call::Call;
 use crate::family::AnyCall;
@@ -7,16 +7,16 @@ use crate::tables::MATCH_WORD;
 use std::fmt;
 use std::ops::Range;
 
-/// The bytes of a header, which has six fields, and of a command, which has three.
+/// The bytes of a header (rule 13.2) and of a command (rule 13.3).
 pub const HEADER: usize = 24;
 pub const COMMAND: usize = 12;
 
-/// What is over one of these stops the whole file.
+/// What is over one of these stops the whole file (rule 13.6).
 pub const LONGEST_FILE: usize = 16_384;
 pub const DEEPEST: u32 = 1024;
 pub const MOST_INDICATORS: usize = 4096;
 
-/// "Operations: 1 write, 2 erase, 3 first-match, 4 all-match, 5 read, 6 clear."
+/// The calls in the order of their operations, from 1 on (rule 13.4).
 const OPERATIONS: [&str; 6] = [
     "write",
     "erase",
@@ -26,7 +26,7 @@ const OPERATIONS: [&str; 6] = [
     "clear",
 ];
 
-/// "The header has six: kind, D, P, W, number of commands, offset of the first."
+/// What the six fields of a header say (rule 13.2).
 #[derive(Clone, Copy)]
 pub struct Header {
     pub geometry: Geometry,
@@ -56,15 +56,13 @@ impl Header {
         ]
     }
 
-    /// "the offset plus 12 × the number of commands", a whole number, which 32 bits may not hold.
+    /// Where the commands end (rule 13.6): 64 bits, as 32 may not hold the sum.
     pub fn end(&self) -> u64 {
         u64::from(self.offset) + COMMAND as u64 * u64::from(self.commands)
     }
 
-    /// "Whole-file stops, in this order: 7, the file is under 24 or over 16,384 bytes, the offset
-    /// is under 24, or the offset plus 12 × the number of commands exceeds the file's length; 1; 9,
-    /// D is over 1,024 or the indicators over 4,096 words." Of a file that has a header, and this
-    /// length.
+    /// The number that stops a file of this length, which has a whole header: 7, then 1, then 9
+    /// (rule 13.6).
     pub fn stop(&self, length: usize) -> Option<u32> {
         let starts_in_header = (self.offset as usize) < HEADER;
         if length > LONGEST_FILE || starts_in_header || self.end() > length as u64 {
@@ -86,7 +84,7 @@ impl Header {
     }
 }
 
-/// "A command has three: operation, address, pattern."
+/// The three fields of a command (rule 13.3).
 #[derive(Clone, Copy)]
 pub struct Command {
     pub operation: u32,
@@ -104,7 +102,7 @@ impl Command {
         }
     }
 
-    /// "A field the operation does not use must be 0." None for a command that stops with 8.
+    /// What the command asks for (rule 13.4). None if 8 stops it (rule 13.7).
     pub fn call(&self, g: &Geometry) -> Option<Call> {
         match (self.operation, self.address, self.pattern) {
             (1, address, pattern) => Some(Call::Write { address, pattern }),
@@ -232,7 +230,7 @@ impl fmt::Display for Job {
     }
 }
 
-/// "All fields are 32 bits, least byte first."
+/// Four bytes for each field, in the order of rule 13.1.
 fn bytes_of(fields: &[u32]) -> Vec<u8> {
     let bytes = fields.iter().flat_map(|field| field.to_le_bytes());
     bytes.collect()

@@ -1,5 +1,5 @@
-//! Random jobs for the program `camrun`: document 01's job files and what is printed for them,
-//! written out a second time on the plain array of the six calls.
+//! Random jobs for the program `camrun`: job files and their reports (sections 13 and 14 of
+//! docs/MEMORY.md), written a second time on the plain array of the six calls.
 
 mod camrun;
 mod command_subjects;
@@ -26,7 +26,7 @@ const NAMES: Names = Names {
 /// Of a command that uses an address and no pattern.
 const AT_AN_ADDRESS: &[&str] = &["refusal 8", "refusal 3", "empty", "pattern"];
 
-/// 5, 6 and, as the program lends a match word that fits, 2 cannot occur.
+/// 5 and 6 cannot occur (rule 10.5), nor can 2: the program lends match words that fit (rule 13.5).
 const REQUIRED: Required = Required {
     answers: &[
         ("job", file_subjects::OF_EACH_KIND),
@@ -47,7 +47,7 @@ const REQUIRED: Required = Required {
     ],
 };
 
-/// Document 01's listing and the random jobs.
+/// The listing of `examples` and the random jobs.
 struct Jobs(RandomPart<Job>);
 
 /// Any file is a job.
@@ -101,6 +101,6 @@ fn run_listing(options: &Options) -> Counts {
     if let Err(what) = outcome {
         println!("FAILED, camrun's listing\n    {what}");
     }
-    println!("camrun's listing in document 01: {counts}");
+    println!("camrun's listing, examples/listing.txt: {counts}");
     counts
 }

@@ -1,4 +1,4 @@
-//! Document 01's report: what `camrun` prints for a job.
+//! What `camrun` prints for a job: rules 14.1 to 14.3 of docs/MEMORY.md.
 
 use crate::binary::answer::Answer;
 use crate::binary::array::Array;
@@ -20,7 +20,7 @@ pub fn report(job: &Job, tally: &mut Tally) -> String {
         "kind {} depth {} width {} set {}\n",
         g.kind, g.depth, g.pattern_width, g.set_width
     );
-    // "`camrun` reads one job on standard input, clears, and runs it."
+    // As after a clear (rule 13.5).
     let mut array = Array::empty(g);
     for (number, command) in job.commands().iter().enumerate() {
         let answer = answer(&mut array, number, command, tally);
@@ -29,8 +29,7 @@ pub fn report(job: &Job, tally: &mut Tally) -> String {
     text
 }
 
-/// "A command with another operation or a stray field stops with 8, tested before 3 and 4, and the
-/// run goes on."
+/// 8 comes before anything that the call itself may be refused for (rule 13.7).
 fn answer(array: &mut Array, number: usize, command: &Command, tally: &mut Tally) -> Answer {
     let g = array.geometry();
     let Some(call) = command.call(&g) else {
@@ -51,7 +50,7 @@ fn answer(array: &mut Array, number: usize, command: &Command, tally: &mut Tally
     answer
 }
 
-/// What follows the command's number.
+/// What follows the command's number (rule 14.2).
 fn items(answer: &Answer) -> String {
     match answer {
         Answer::Refused(number) => format!("no {number}"),

@@ -1,4 +1,5 @@
--- What the code's entries, calls and answers stand for: those of the reference, with document 01's numbers and values.
+-- What the code's entries, calls and answers stand for: those of the reference, with the numbers and values of docs/MEMORY.md
+-- (sections 7 and 9).
 use Prim.Native.Nat.{ℕ}
 use mathlib.Core.Path.{_≡_}
 use mathlib.Core.List.{List}

@@ -24,7 +24,7 @@ pub enum Call {
     AllMatch(u32),
 }
 
-// What comes back. Document 01's w is `words_read`, its c `entries_compared`.
+// What comes back (docs/MEMORY.md, section 7). `words_read` is w and `entries_compared` is c.
 pub enum Answer {
     Refused(Refusal),
     Cleared,
@@ -57,14 +57,14 @@ impl Entry {
     }
 }
 
-// Whether a word is empty or a pattern.
+// Whether a word is empty or a pattern (rule 3.2).
 pub fn is_sound(word: u32, patterns: u32) -> bool
     ensures { λ r. ⌜ r ≡ (eqb word emptyWord || ltb word patterns) ⌝ }
 {
     word == 0xffff_ffff || word < patterns
 }
 
-// What a word holds. One that is neither empty nor a pattern holds nothing.
+// What a word holds. One that is neither empty nor a pattern holds nothing (rule 6.4).
 pub fn entry_of(word: u32, patterns: u32) -> Entry
     ensures { λ r. ⌜ entryFor r ≡ cond (ltb word patterns) (pattern word) empty ⌝ }
 {

@@ -1,4 +1,5 @@
--- The number that stands for an answer, what it gives back, and what an exported function gives and leaves.
+-- The number that stands for an answer, what it gives back, and what an exported function gives and leaves (docs/MEMORY.md,
+-- section 12).
 use Prim.Native.Nat.{ℕ, _+_, _-_, _*_, _/_, _%_}
 use mathlib.Core.Path.{_≡_}
 use mathlib.Core.Bool.{cond}
@@ -10,8 +11,7 @@ use Rattle.reference.specs.Calls.{Call, clear, write, erase, read, firstMatch, 
 use Rattle.reference.specs.Tables.{Tables}
 use Rattle.reference.specs.Steps.{step}
 
--- Below 256 a refusal's number. Else 256 and a value: 0; the entry as the store has it; the address, 65,535 for none, with
--- 65,536 times the words read and 2^32 times the entries compared; the number of hits.
+-- A refusal's number, which is below 256, or 256 and a value (rules 12.1 to 12.3).
 abbrev pub codeOf : Answer → ℕ
 codeOf (refused n) = n
 codeOf cleared = 256

@@ -1,4 +1,4 @@
--- What the checks give: the sizes of a geometry, or document 01's refusals 1 to 4 in their order.
+-- What the checks give: the sizes of a geometry, or refusals 1 to 4 in their order (rule 9.1 of docs/MEMORY.md).
 use Prim.Native.Nat.{ℕ}
 use mathlib.Core.Bool.{Bool, cond, not}
 use lib.Dec.{eqb, leb}
@@ -13,7 +13,7 @@ use Rattle.checks.specs.declared.Refusal.the-variants.{BadGeometry, BadL
 use Rattle.checks.specs.declared.Checked.{Checked}
 use Rattle.checks.specs.declared.Checked.the-variants.{Accepted, Refused}
 
--- Document 01's numbers.
+-- The numbers of rule 9.1.
 abbrev pub numberOf : Refusal → ℕ
 numberOf BadGeometry = 1
 numberOf BadLengths = 2
@@ -31,19 +31,20 @@ sizesIn (Refused why) = record { patterns = 0; sets = 0; «row_words» = 0; stag
 unfoldable pub checked : Geometry → Checked
 checked g = cond (valid g) (Accepted (sizesOf g)) (Refused BadGeometry)
 
--- One row more of document 01's table: its refusal where its test holds, and no row above it was given.
+-- One row more of the table: its refusal where its test holds, and no row above it was given.
 unfoldable pub andRow : Checked → Refusal → (test : Sizes → Bool) → Checked
 andRow (Accepted sizes) why test = cond (test sizes) (Refused why) (Accepted sizes)
 andRow (Refused above) why test = Refused above
 
+-- Refusal 2 besides, by the tables.
 unfoldable pub checkedTables : Geometry → (store indicators : ℕ) → Checked
 checkedTables g store indicators = andRow (checked g) BadLengths (λ sizes. not (tablesFit g store indicators))
 
--- "or match word not D / 64 rounded up"
+-- And by the match word.
 unfoldable pub checkedMatches : Geometry → (store indicators matches : ℕ) → Checked
 checkedMatches g store indicators matches =
     andRow (checkedTables g store indicators) BadLengths (λ sizes. not (eqb matches (matchWords g)))
 
--- "pattern is 2^P or more"
+-- Refusal 4 besides.
 abbrev pub andPattern : Checked → (pattern : ℕ) → Checked
 andPattern x p = andRow x BadPattern (λ sizes. leb (sizes .patterns) p)

@@ -1,11 +1,11 @@
-// The rows of document 01's table of refusals that a call tests before it looks at its tables. A row more is one `and_row` by
-// a test; the checks here are its uses.
+// The rows of the table of refusals (rule 9.1 of docs/MEMORY.md) that a call tests before it looks at its tables. A row more is
+// one `and_row` by a test; the checks here are its uses.
 use geometry::Geometry;
 use sizes::Sizes;
 ghost use mathlib.Core.Path.{_≡_};
 ghost use Rattle.checks.specs.Checks.{numberOf, checked, checkedTables, checkedMatches, sizesIn, andRow, andPattern};
 
-// Why a call stops: a row of document 01's table.
+// Why a call stops: a row of the table.
 pub enum Refusal {
     BadGeometry,
     BadLengths,
@@ -16,7 +16,7 @@ pub enum Refusal {
 }
 
 impl Refusal {
-    // The number that document 01 gives it.
+    // Its number (rule 9.1).
     pub fn number(self) -> u32
         ensures { λ r. ⌜ r ≡ numberOf self ⌝ }
     {

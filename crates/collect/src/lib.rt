@@ -1,6 +1,7 @@
-// All-match: whether an indicated set is false, and the addresses of the indicated sets that it takes. What the functions here
-// ask is what the check of the call has shown: a valid geometry and its sizes, tables and a match word of their lengths. That a
-// set is one of the geometry's follows from the joined word, which has no bit of padding.
+// All-match: whether an indicated set is false, and the addresses of the indicated sets that it takes (rules 8.8 and 8.9 of
+// docs/MEMORY.md). What the functions here ask is what the check of the call has shown: a valid geometry and its sizes, tables
+// and a match word of their lengths. That a set is one of the geometry's follows from the joined word, which has no bit of
+// padding.
 use geometry::Geometry;
 use geometry::SEGMENTED;
 use places::Offset;
@@ -23,7 +24,7 @@ ghost use Rattle.calls.specs.Answers.{tables};
 ghost use Rattle.search.specs.Rows.{InSets};
 ghost use Rattle.collect.specs.Marks.{marked, inWord};
 
-// Whether a set that is indicated is false: the segmented kind, and no entry equal to the key.
+// Whether a set that is indicated is false: the segmented kind, and no entry is the key.
 fn is_false(g: Geometry, store: &[u32], set: SetIndex, key: u32) -> bool
     requires { ⌜ (valid g ≡ true) × (length (now store) ≡ g .depth) × (set .0 < sets g) ⌝ }
     ensures { λ r. ⌜ r ≡ isFalse (inSet g (tables (now (store .entry)) []) key (set .0) 0) ⌝ }

@@ -14,6 +14,7 @@ use Rattle.report.specs.Lines.{answerLine}
 use Rattle.jobfile.specs.declared.Command.{Command}
 use Rattle.jobfile.specs.Decoding.{decoded}
 
+-- 8 where there is no call (rule 13.7 of docs/MEMORY.md).
 unfoldable pub performed : Geometry → Tables → (lent : List ℕ) → Option (Call (List ℕ)) → Outcome
 performed g t m none = record { answer = refused 8; tables = t; matches = m }
 performed g t m (some call) = lentStep g t m call

@@ -1,4 +1,5 @@
--- How the indicators change when the entry of an address comes to cover other rows: the bits of its set follow.
+-- How the indicators change when the entry of an address comes to cover other rows: the bits of its set follow (rule 8.2 of
+-- docs/MEMORY.md).
 use Prim.Native.Nat.{ℕ, _+_, _*_, _/_, _%_}
 use mathlib.Core.Bool.{Bool, not, _&&_}
 use mathlib.Core.List.{List, [], _∷_}

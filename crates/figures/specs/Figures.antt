@@ -22,10 +22,10 @@ unfoldable pub places : (most n : ℕ) → ℕ
 places zero n = 1
 places (suc most) n = elim (ltb n 10) [ true ↦ 1 | false ↦ suc (places most (n / 10)) ]
 
--- "Every other figure is decimal": n's digits, and no zero before them.
+-- n's digits, and no zero before them (rule 14.3 of docs/MEMORY.md).
 unfoldable pub decimal : ℕ → Bytes
 decimal n = digits 10 (places n n) n
 
--- "each 16 hexadecimal digits", in lower case.
+-- A word of a match word (rule 14.3): all sixteen digits, in small letters.
 unfoldable pub hexadecimal : (word : ℕ) → Bytes
 hexadecimal w = digits 16 16 w

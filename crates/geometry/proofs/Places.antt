@@ -87,7 +87,7 @@ module _ (g : Geometry) (f : Facts g) where
       go (inl e) = inr (e, omega (arith, rw e at (address-of a)))
       go (inr l) = inl l
 
-  -- document 01's w of an address: the word of its set
+  -- the w of an address (rule 5.7 of docs/MEMORY.md) is by the word of its set
   pub word-of : (a : ℕ) → a / (64 * g .«set_width») ≡ setOf g a / 64
   word-of a = rw mul-comm (sym (div-div-eq-div-mul a (g .«set_width») 64))
 

@@ -123,7 +123,7 @@ module _ (g : Geometry) (f : Facts g) where
   unfolding rowsOf tabulate
   one-stage p e h = rw e (ap (λ (r : ℕ). r ∷ []) (one-row p e h))
 
-  -- "one row for each pattern, 2^P in all"
+  -- and there are as many rows as patterns (rule 4.4 of docs/MEMORY.md)
   pub rows-patterns : eqb (g .kind) cascaded ≡ false → rows g ≡ patterns g
   unfolding rows patterns
   rows-patterns e =

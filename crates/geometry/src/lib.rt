@@ -1,7 +1,7 @@
 // The four numbers of a memory and the numbers of the kinds. Which four are a geometry and what follows from it are
 // definitions, with their laws; the code of them is in `sizes`.
 
-// The numbers of the kinds. The rest of the code has them by name.
+// The numbers of the kinds (rule 2.2 of docs/MEMORY.md). The rest of the code has them by name.
 pub const TRANSPOSED: u32 = 0;
 
 pub const CASCADED: u32 = 1;

@@ -1,6 +1,6 @@
--- Job files and what they print, as rows of one table: document 01's listing; each operation and each stray field; figures,
--- counts and match words; the whole-file stops on both sides of their limits, and their order. proofs/Examples.antt computes
--- them all.
+-- Job files and what they print, as rows of one table: that of examples/listing.txt; each operation and each stray field;
+-- figures, counts and match words; the whole-file stops on both sides of their limits, and their order. proofs/Examples.antt
+-- computes them all.
 use Prim.Native.Nat.{ℕ, _-_, _/_, _%_}
 use Prim.Native.String.{String}
 use mathlib.Core.List.{List, [], _∷_, _++_, map, foldr}
@@ -58,7 +58,7 @@ alone kind depth width set = bytesOf (kind ∷ depth ∷ width ∷ set ∷ 0 ∷
 
 unfoldable pub examples : List Example
 examples =
-    -- document 01's listing
+    -- examples/listing.txt
     jobS
     (command 1 3 1 gives "0 was -"
     ∷ command 1 2 1 gives "1 was -"

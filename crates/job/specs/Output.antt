@@ -1,4 +1,4 @@
--- What a job prints, by the plain array alone.
+-- What a job prints, by the plain array alone (docs/MEMORY.md, sections 13 and 14).
 use Prim.Native.Nat.{ℕ, _+_}
 use mathlib.Core.List.{List, [], _∷_, _++_, map}
 use mathlib.Core.Option.{Option, none, some}
@@ -13,12 +13,12 @@ use Rattle.jobfile.specs.declared.Command.{Command}
 use Rattle.jobfile.specs.Files.{geometryOf, commandsOf, fileStop}
 use Rattle.jobfile.specs.Decoding.{decoded}
 
--- "A command with another operation or a stray field stops with 8, tested before 3 and 4, and the run goes on."
+-- A command that asks for no call gets 8, and changes nothing (rule 13.7).
 unfoldable pub obeyed : Geometry → Array → Option (Call ℕ) → ArrayOutcome
 obeyed g es none = record { answer = refused 8; array = es }
 obeyed g es (some call) = arrayStep g es call
 
--- All-match is lent a match word of the right length.
+-- The match word has the right length (rule 13.5).
 unfoldable pub arrayCommand : Geometry → Array → Command → ArrayOutcome
 arrayCommand g es c = obeyed g es (decoded (matchWords g) c)
 
@@ -29,19 +29,19 @@ onCommands g = record { step = arrayCommand g; state = λ o. o .array }
 abbrev pub answers : Geometry → Array → List Command → List Answer
 answers g es cs = map (λ (o : ArrayOutcome). o .answer) (run (onCommands g) es cs)
 
--- "Each other line starts with the command's number, counted from 0": the lines from number k on.
+-- The lines of the commands from number k on (rule 14.2).
 unfoldable pub numbered : (k : ℕ) → List Answer → Bytes
 numbered k [] = []
 numbered k (x ∷ xs) = answerLine k x ++ numbered (k + 1) xs
 
--- "reads one job on standard input, clears, and runs it"
+-- The job's memory begins empty (rule 13.5).
 abbrev pub answersOf : Bytes → List Answer
 answersOf file = answers (geometryOf file) (emptied (geometryOf file)) (commandsOf file)
 
 unfoldable pub report : Bytes → Bytes
 report file = firstLine (geometryOf file) ++ numbered 0 (answersOf file)
 
--- What is printed of a job that nothing stops, and of one that a number stops.
+-- What is printed of a job that nothing stops, and of one that a number stops (rule 14.1).
 unfoldable pub printed : Bytes → Option ℕ → Bytes
 printed file none = report file
 printed file (some n) = stopLine n

@@ -1,4 +1,4 @@
--- The call that a command asks for.
+-- The call that a command asks for (docs/MEMORY.md, section 13).
 use Prim.Native.Nat.{ℕ}
 use mathlib.Core.Bool.{cond}
 use mathlib.Core.Option.{Option, none, some}
@@ -6,11 +6,11 @@ use lib.Dec.{eqb}
 use Rattle.reference.specs.Calls.{Call, clear, write, erase, read, firstMatch, allMatch}
 use Rattle.jobfile.specs.declared.Command.{Command}
 
--- A command that has no use for this field asks for a call only where the field is 0.
+-- A command that has no use for this field asks for a call only where the field is 0 (rule 13.7).
 abbrev pub unused : {A : Type 0} → (field : ℕ) → Option A → Option A
 unused field x = cond (eqb field 0) x none
 
--- The call of each operation, and none of any other number. What stands for the match word of all-match is `lent`.
+-- The call of each operation (rule 13.4), and none of any other number. What stands for the match word of all-match is `lent`.
 abbrev pub asked : {M : Type 0} → (operation : ℕ) → (lent : M) → (address pattern : ℕ) → Option (Call M)
 asked n lent a p =
     cond (eqb n 1) (some (write a p))

@@ -1,4 +1,4 @@
--- Job files: their fields, and what stops a whole file.
+-- Job files: their fields, and what stops a whole file (docs/MEMORY.md, section 13).
 use Prim.Native.Nat.{ℕ, zero, suc, _+_, _*_}
 use mathlib.Core.Bool.{Bool, not, _||_}
 use mathlib.Core.List.{List, [], _∷_}
@@ -17,11 +17,11 @@ use Rattle.jobfile.specs.declared.Command.{Command}
 abbrev pub byteAt : Bytes → ℕ → ℕ
 byteAt file i = getD file i 0
 
--- "All fields are 32 bits, least byte first."
+-- The field that begins at byte `at` (rule 13.1).
 unfoldable pub field : (file : Bytes) → (at : ℕ) → ℕ
 field file i = byteAt file i + 256 * (byteAt file (i + 1) + 256 * (byteAt file (i + 2) + 256 * byteAt file (i + 3)))
 
--- "The header has six: kind, D, P, W, number of commands, offset of the first."
+-- The six fields of the header (rule 13.2).
 unfoldable pub headerOf : Bytes → Header
 headerOf file = record {
   geometry = record { kind = field file 0; depth = field file 4; «pattern_width» = field file 8; «set_width» = field file 12 };
@@ -32,11 +32,11 @@ headerOf file = record {
 abbrev pub geometryOf : Bytes → Geometry
 geometryOf file = headerOf file .geometry
 
--- "A command has three: operation, address, pattern."
+-- The three fields of a command (rule 13.3).
 unfoldable pub commandAt : (file : Bytes) → (at : ℕ) → Command
 commandAt file i = record { operation = field file i; address = field file (i + 4); pattern = field file (i + 8) }
 
--- Commands in a row, the first of them at `at`.
+-- Commands in a row, the first of them at `at` (rule 13.3).
 unfoldable pub commandsFrom : (file : Bytes) → (count at : ℕ) → List Command
 commandsFrom file zero i = []
 commandsFrom file (suc n) i = commandAt file i ∷ commandsFrom file n (i + 12)
@@ -44,19 +44,19 @@ commandsFrom file (suc n) i = commandAt file i ∷ commandsFrom file n (i + 12)
 abbrev pub commandsOf : Bytes → List Command
 commandsOf file = commandsFrom file (headerOf file .commands) (headerOf file .offset)
 
--- "the offset is under 24, or the offset plus 12 × the number of commands exceeds the file's length"
+-- Stop 7 by the commands: they begin in the header, or end past the file. The sum does not wrap (rule 13.6).
 unfoldable pub commandsOutside : Header → (length : ℕ) → Bool
 commandsOutside h n = ltb (h .offset) 24 || ltb n (h .offset + 12 * h .commands)
 
--- "the file is under 24 or over 16,384 bytes", or that
+-- Stop 7: by the file's length, or that.
 unfoldable pub badFile : Bytes → Bool
 badFile file = (ltb (length file) 24 || ltb 16384 (length file)) || commandsOutside (headerOf file) (length file)
 
--- "D is over 1,024 or the indicators over 4,096 words"
+-- Stop 9.
 unfoldable pub tooLarge : Geometry → Bool
 tooLarge g = ltb 1024 (g .depth) || ltb 4096 (indicatorWords g)
 
--- "Whole-file stops, in this order": those of the geometry, and all.
+-- The stops in their order (rule 13.6): those of the geometry, and all.
 unfoldable pub geometryStops : Geometry → List RefusalRow
 geometryStops g = 1 given-when not (valid g) ∷ 9 given-when tooLarge g ∷ []
 

@@ -15,7 +15,7 @@ use Rattle.jobfile.specs.declared.Opened.the-variants.{Job, Stopped}
 use Rattle.jobfile.specs.declared.Decoded.{Decoded}
 use Rattle.jobfile.specs.declared.Decoded.the-variants.{Asks, Nothing}
 
--- Document 01's numbers.
+-- The numbers of rule 13.6 of docs/MEMORY.md.
 abbrev pub stopNumber : Stop → ℕ
 stopNumber BadFile = 7
 stopNumber BadGeometry = 1

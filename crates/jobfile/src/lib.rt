@@ -1,4 +1,5 @@
-// Job files: their header and commands, what stops a whole file, and the call that a command asks for.
+// Job files: their header and commands, what stops a whole file, and the call that a command asks for (docs/MEMORY.md,
+// section 13).
 use calls::Call;
 use checks::Checked;
 use geometry::Geometry;
@@ -42,14 +43,14 @@ pub enum Opened {
     Stopped(Stop),
 }
 
-// The call that a command asks for. A command with another operation or a stray field asks for none.
+// The call that a command asks for: none, where number 8 stops it (rule 13.7).
 pub enum Decoded {
     Asks(Call),
     Nothing,
 }
 
 impl Stop {
-    // The number that document 01 gives it.
+    // Its number (rule 13.6).
     pub fn number(self) -> u32
         ensures { λ r. ⌜ r ≡ stopNumber self ⌝ }
     {
@@ -127,7 +128,7 @@ fn size(header: Header) -> Opened
     }
 }
 
-// The stops of a file, in their order.
+// The stops of a file, in their order (rule 13.6).
 pub fn open(file: &[u8]) -> Opened
     ensures { λ r. ⌜ Opens (fileStops (now (file .entry))) (headerOf (now (file .entry))) r ⌝ }
 {

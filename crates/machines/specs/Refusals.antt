@@ -1,4 +1,4 @@
--- A table of refusals: its rows are tested from the top, and the number of the first that applies is given.
+-- A table of refusals: the first row whose test holds gives its number, and those below it do not count.
 use Prim.Native.Nat.{ℕ}
 use mathlib.Core.Bool.{Bool, true, false}
 use mathlib.Core.List.{List, [], _∷_, _++_}

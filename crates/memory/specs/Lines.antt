@@ -1,4 +1,4 @@
--- The line that is handed back: that part of the store itself, no copy.
+-- The line that is handed back: that part of the store itself, no copy (docs/MEMORY.md, section 11).
 use Prim.Native.Nat.{ℕ, _+_, _*_}
 use mathlib.Core.Path.{_≡_}
 use mathlib.Core.List.{List, []}

@@ -1,4 +1,5 @@
--- Histories of the code: calls that were made one after the other, each on the tables that the last one left.
+-- Histories of the code (docs/MEMORY.md, section 10): calls that were made one after the other, each on the tables that the last
+-- one left.
 use Prim.Native.Nat.{ℕ}
 use mathlib.Core.Path.{_≡_}
 use mathlib.Core.Logic.{_↔_}
@@ -46,8 +47,8 @@ shapes xs = map shape (map (λ (x : Run). x .call) xs)
 abbrev pub arrayAfterRuns : Geometry → List Run → Array
 arrayAfterRuns g xs = arrayAfter g (emptied g) (shapes xs)
 
--- Demand 3 of the code: every answer is the plain array's; each match word is the one in the answer or else as lent; and at
--- the end the store and every indicator word, padding bits included, are the array's.
+-- Demand 3 of the code (rules 10.2 and 10.3): every answer is the plain array's; each match word is the one in the answer or else
+-- as lent; and at the end the store and every indicator word, padding bits included, are the array's.
 pub record CodeFollows (g : Geometry) (t : Tables) (xs : List Run) : Type 0 where
   pub answers : map (λ (x : Run). x .answer) xs ≡ arrayAnswers g (emptied g) (shapes xs)
   pub matches : map (λ (x : Run). x .matches) xs ≡ map (λ (x : Run). matchesAfter (x .answer) (x .lent)) xs
@@ -58,7 +59,7 @@ abbrev pub ChainsFollow : Geometry → (Link : Tables → Run → Type 0) → Ty
 ChainsFollow g Link =
     (t : Tables) (x : Run) (xs : List Run) → Chain Link t (x ∷ xs) → x .call ≡ clear → x .answer ≡ cleared → CodeFollows g t (x ∷ xs)
 
--- Two such chains leave equal tables exactly when they leave equal arrays.
+-- Two such chains leave equal tables exactly when they leave equal arrays (rule 10.4).
 abbrev pub ChainsTell : Geometry → (Link : Tables → Run → Type 0) → Type 0
 ChainsTell g Link =
     (t u : Tables) (x y : Run) (xs ys : List Run) → Chain Link t (x ∷ xs) → Chain Link u (y ∷ ys)

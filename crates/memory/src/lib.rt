@@ -1,5 +1,5 @@
-// The six calls and the line, over lent tables. Each gives the answer of its step in `reference` and leaves its tables, for
-// every input: any geometry, tables of any length and content.
+// The six calls and the line, over lent tables (docs/MEMORY.md, sections 7 to 9 and 11). Each gives the answer of its step in
+// `reference` and leaves its tables, for every input: any geometry, tables of any length and content.
 use calls::Answer;
 use calls::Call;
 use calls::Entry;
@@ -136,7 +136,7 @@ pub fn all_match(
     }
 }
 
-// The line of a set: that part of the store itself. A bad geometry, store length or set number gives an empty part.
+// The line of a set: that part of the store itself (rule 11.1). Its length is 0 where something is bad (rule 11.2).
 pub fn line(g: Geometry, store: &[u32], set: SetIndex) -> &[u32]
     ensures { λ r. ⌜ HandsBack g (store .entry) r (set .0) ⌝ }
 {

@@ -1,4 +1,4 @@
--- The line of a set: that part of the store itself, no copy.
+-- A set's line (rule 11.1 of docs/MEMORY.md): that part of the store itself, no copy.
 use Prim.Native.Nat.{ℕ, _+_, _*_}
 use mathlib.Core.Path.{_≡_}
 use mathlib.Core.List.{List}

@@ -1,8 +1,9 @@
-// Addresses, sets, offsets in a set and words of a row: the one rule between them, and where each stands in the lent tables.
-// Only this file makes them or takes them apart. Sets and offsets hand out no number, so that anywhere else one cannot be
-// taken for another, added to it or compared with it. An address takes a caller's number and hands out its own for an answer
-// (`Address::new`, `number`), and a set takes a caller's number for the line (`SetIndex::from_caller`); tests/types_apart says
-// which files may use these. What no type tells apart are the words of a row and those of a match word.
+// Addresses, sets, offsets in a set and words of a row: the one rule between them (rule 2.5 of docs/MEMORY.md), and where each
+// stands in the lent tables (section 3 there). Only this file makes them or takes them apart. Sets and offsets hand out no
+// number, so that anywhere else one cannot be taken for another, added to it or compared with it. An address takes a caller's
+// number and hands out its own for an answer (`Address::new`, `number`), and a set takes a caller's number for the line
+// (`SetIndex::from_caller`); tests/types_apart says which files may use these. What no type tells apart are the words of a row
+// and those of a match word.
 use geometry::Geometry;
 use sizes::Sizes;
 ghost use Prim.Native.Nat.{_+_, _*_, _/_, _%_, _<_};
@@ -23,7 +24,7 @@ pub struct Address(u32);
 // The number of a set.
 pub struct SetIndex(u32);
 
-// Where an address stands in its set, counted from the set's first; document 01 calls it a place.
+// Where an address stands in its set, counted from the set's first.
 pub struct Offset(u32);
 
 // How many addresses a set has. Only a set gives it, and only an offset is tested against it.
@@ -176,7 +177,7 @@ impl SetIndex {
         words::without_bit(word, self.0 % 64)
     }
 
-    // Its line: that part of the store itself. `memory::line` tests what is asked.
+    // Its line (rule 11.1): that part of the store itself. `memory::line` tests what is asked.
     pub fn line(self, store: &[u32], g: Geometry) -> &[u32]
         requires { ⌜ (valid g ≡ true) × (length (now store) ≡ g .depth) × (self .0 < sets g) ⌝ }
         ensures { λ r. ⌜ IsLine g (store .entry) r (self .0) ⌝ }

@@ -1,5 +1,6 @@
--- The cases of document 01 hold: antt runs every row of the table on the steps and compares the answers. So do single calls
--- on damaged tables, of which every word that is left is compared, and the verdicts on whether tables mirror their store.
+-- The cases P1 to P10 hold (docs/MEMORY.md, section 15): antt runs every row of the table on the steps and compares the answers.
+-- So do single calls on damaged tables, of which every word that is left is compared, and the verdicts on whether tables mirror
+-- their store.
 use mathlib.Core.Path.{_≡_, refl}
 use mathlib.Core.List.{map}
 use lib.Count.{trailingZeros}

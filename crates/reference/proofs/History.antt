@@ -1,6 +1,6 @@
--- Statements 1 and 2, demand 3: a history that begins with an accepted clear is that of the plain array, and two such
--- histories of one geometry leave equal tables exactly when they leave equal arrays. By induction on the calls, with
--- `agrees` for each.
+-- Statements 1 and 2, demand 3: a history that begins with an accepted clear is that of the plain array (rules 10.2 and 10.3 of
+-- docs/MEMORY.md), and two such histories of one geometry leave equal tables exactly when they leave equal arrays (rule 10.4).
+-- By induction on the calls, with `agrees` for each.
 use Prim.Native.Nat.{ℕ}
 use mathlib.Core.Path.{_≡_, refl, sym, ap, ap₂, _∙_}
 use mathlib.Core.Logic.{_↔_, _⊎_, inl, inr}
@@ -75,7 +75,7 @@ history-begins : (g : Geometry) (t : Tables) (cs : History) → step g t clear .
 unfolding machine.after arrayStep arrayOutcome arrayRefusals firstRefusal arrayAccepted shape
 history-begins g t cs e = history-keeps g (step g t clear .tables) (emptied g) (clear-begins g t e) cs .ends
 
--- every history leaves D entries, each empty or a pattern
+-- every history leaves an array of the geometry (rule 5.1)
 pub array-sound : (g : Geometry) (t : Tables) (cs : History) → step g t clear .answer ≡ cleared → Sound g (arrayOf g (clear ∷ cs))
 array-sound g t cs e = history-begins g t cs e .sound
 
@@ -104,7 +104,7 @@ later-refusals g t cs c n e h =
     let given = first-refusal _ n (given-exactly g (tablesOf g (arrayOf g (clear ∷ cs))) c n .0 (rw (b .tables) at h)) in
     refusal-first _ n (sym (same-refusals g (b .is-valid) _ (b .sound) c) ∙ given)
 
--- So 1, 5 and 6 do not occur after an accepted clear, and 2 only for a match word of wrong length.
+-- So after an accepted clear only 2, 3 and 4 are left, and 2 for the match word alone (rule 10.5).
 pub later-numbers : (g : Geometry) (t : Tables) (cs : History) (c : Call (List ℕ)) (n : ℕ) → step g t clear .answer ≡ cleared
     → step g (after g t (clear ∷ cs)) c .answer ≡ refused n → (n ≡ 3) ⊎ ((n ≡ 4) ⊎ ((n ≡ 2) × (badMatches g c ≡ true)))
 unfolding arrayRefusals shape badMatches

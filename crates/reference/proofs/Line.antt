@@ -1,4 +1,4 @@
--- The line of a set has the set's entries, is never empty, and is handed back exactly where nothing is bad.
+-- A line has the set's entries, is never empty, and is handed back exactly where nothing is bad (docs/MEMORY.md, section 11).
 use Prim.Native.Nat.{ℕ, _-_, _*_, _<_, _≤_}
 use mathlib.Core.Path.{_≡_, ap, _∙_}
 use mathlib.Core.Bool.{true, false, _&&_}
@@ -17,7 +17,7 @@ use Rattle.geometry.proofs.Places.{length-pos, address-lt}
 use Rattle.reference.specs.Line.{line}
 
 module _ (g : Geometry) (store : List ℕ) (s : ℕ) where
-  -- a bad geometry, store length or set number
+  -- what is bad gives a part of length 0 (rule 11.2)
   pub line-refused : (valid g && eqb (length store) (g .depth) && ltb s (sets g)) ≡ false → line g store s ≡ []
   unfolding line
   line-refused e = rw e
@@ -27,7 +27,7 @@ module _ (g : Geometry) (store : List ℕ) (s : ℕ) where
     unfolding line
     true-line = rw (ok, eq-eqb (length store) (g .depth) long, lt-ltb s (sets g) inside)
 
-    -- it has the set's entries, and no true line is empty
+    -- it is as long as its set, which is never 0 (rules 11.1 and 11.2)
     pub line-length : (length (line g store s) ≡ setLength g s) × (0 < setLength g s)
     line-length = (ap length true-line ∙ length-take-le (setLength g s) (drop (addressOf g s 0) store) enough, some)
       where
@@ -37,6 +37,6 @@ module _ (g : Geometry) (store : List ℕ) (s : ℕ) where
         enough : setLength g s ≤ length (drop (addressOf g s 0) store)
         enough = rw (length-drop (addressOf g s 0) store) (omega (arith, address-lt g (facts g ok) s (setLength g s - 1) inside (omega (arith, some)), some))
 
-    -- "the part of the store from W × s"
+    -- and has the store's words (rule 11.1)
     pub line-entry : (o d : ℕ) → o < setLength g s → getD (line g store s) o d ≡ getD store (addressOf g s o) d
     line-entry o d h = rw (true-line, getD-take (setLength g s) (drop (addressOf g s 0) store) o d h, getD-drop (addressOf g s 0) store o d, add-zero (g .«set_width» * s))

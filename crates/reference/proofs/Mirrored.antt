@@ -48,7 +48,7 @@ module _ (g : Geometry) (f : Facts g) (t : Tables) (mirrors : Mirrors g t) (key 
       rw (address-of g f a) at
       (none-of-any (setLength g (setOf g a)) (heldAt (setOf g a)) (sym (indicated-is g f t mirrors key small (setOf g a) (set-lt g f a l)) ∙ h) (offsetOf g a) (offset-lt g f a l))
 
-  -- the first place of the first indicated set is the first address of all
+  -- the first offset that has the key, in the first indicated set, is the first address of all
   first-address : (s o : ℕ) → First (sets g) (indicated g t key) s → First (setLength g s) (heldAt s) o → First (g .depth) held (addressOf g s o)
   first-address s o first place = record {
     within = inside;

@@ -1,5 +1,5 @@
--- Document 01's own sentences on the bits of each kind, as instances of the one rule by rows: in kinds 0 and 2 a row is a
--- pattern, in kind 1 it is a value of a stage.
+-- The rules of docs/MEMORY.md written out kind by kind (4.3, 6.2, 8.3, 8.4), as instances of the one rule by rows: in kinds 0
+-- and 2 a row is a pattern, in kind 1 it is a value of a stage.
 use Prim.Native.Nat.{ℕ, _+_, _*_, _/_, _%_, _^_, _<_, _≤_}
 use mathlib.Core.Path.{_≡_, refl, sym, ap, _∙_}
 use mathlib.Core.Bool.{true, false, not, _&&_, and-true, and-false, or-false}
@@ -32,7 +32,7 @@ use Rattle.reference.proofs.Limits.{pattern-passes}
 use Rattle.reference.proofs.Replaced.{covers-lt, held-passed, write-bits, erase-bits}
 use Rattle.reference.proofs.Entries.{empty-fits, pattern-fits, word-fits}
 
--- "Slice k starts at word R × 512 × k; its row r begins R × r words later."
+-- at which word the row of a stage's value begins (rule 4.3)
 pub stage-starts : (g : Geometry) (ind : List ℕ) (p k j b : ℕ)
     → cell g ind (rowOf g p k) j b ≡ bit (getD ind (rowWords g * 512 * k + rowWords g * stage g k p + j) 0) b
 unfolding rowOf
@@ -45,7 +45,7 @@ uncovered g f es sound r s past =
     any-false (setLength g s) _
     (λ o l. rw (List·getD-eq-default es empty {n = addressOf g s o} (rw (sound .long) (address-past g f s o past))))
 
--- "Spare bits are 0."
+-- padding bits of the image (rule 6.3)
 pub image-padding : (g : Geometry) → valid g ≡ true → (es : Array) → Sound g es → (r j b : ℕ) → r < rows g → j < rowWords g → sets g ≤ 64 * j + b
     → cell g (image g (arrayCover g es)) r j b ≡ false
 image-padding g ok es sound r j b hr hj past =
@@ -54,11 +54,11 @@ image-padding g ok es sound r j b hr hj past =
 -- ---- kinds 0 and 2
 
 module _ (g : Geometry) (ok : valid g ≡ true) (kind : eqb (g .kind) cascaded ≡ false) where
-  -- "one row for each pattern"
+  -- a pattern has one row, with its own number (rule 4.3)
   pub row-of-pattern : (p : ℕ) → p < patterns g → rowsOf g p ≡ (p ∷ [])
   row-of-pattern p h = one-stage g (facts g ok) p (one-stage-kind g (facts g ok) kind) h
 
-  -- "word j of row p is number R × p + j"
+  -- at which word it begins (rule 4.3)
   pub pattern-starts : (ind : List ℕ) (p j b : ℕ) → p < patterns g → cell g ind (rowOf g p 0) j b ≡ bit (getD ind (rowWords g * p + j) 0) b
   pattern-starts ind p j b h = ap (λ r. cell g ind r j b) (one-row g (facts g ok) p (one-stage-kind g (facts g ok) kind) h)
 
@@ -69,7 +69,7 @@ module _ (g : Geometry) (ok : valid g ≡ true) (kind : eqb (g .kind) cascaded �
       rw (row-of-pattern p (fits p refl), or-false (eqb r p))
       (both-ways (eqb r p) (eqb p r) (λ e. eq-eqb p r (sym (eqb-true r p e))) (λ e. eq-eqb r p (sym (eqb-true p r e))))
 
-  -- "the bit of row p and set s is 1 exactly when some address in set s holds p"
+  -- the image (rule 6.2)
   pub image-pattern : (es : Array) → Sound g es → (p s : ℕ) → p < patterns g → s < sets g
       → cell g (image g (arrayCover g es)) p (s / 64) (s % 64) ≡ any (setLength g s) (λ o. holds (entryAt es (addressOf g s o)) p)
   unfolding covered holds
@@ -80,6 +80,7 @@ module _ (g : Geometry) (ok : valid g ≡ true) (kind : eqb (g .kind) cascaded �
       inside : p < rows g
       inside = covers-lt g (facts g ok) (pattern p) p (covers-pattern (pattern p) (pattern-fits g p hp) p ∙ eq-eqb p p refl)
 
+  -- an accepted write (rule 8.3) and an accepted erase (rule 8.4)
   pattern-bits : (t u : Tables) (a : ℕ) (e : Entry) → Fits g e → EveryBit g t u a e → PatternBits g t u a e
   unfolding othersCover othersHold
   pattern-bits t u a e fits every r j b hj =
@@ -109,7 +110,7 @@ module _ (g : Geometry) (ok : valid g ≡ true) (kind : eqb (g .kind) cascaded �
   covers-stage empty k x hk hx = refl
   covers-stage (pattern p) k x hk hx = row-among g (facts g ok) k x p hk hx
 
-  -- "of row p_k in slice k": 1 exactly when some address in set s "holds a pattern whose slice k is p_k"
+  -- the image (rule 6.2)
   pub image-stage : (es : Array) → Sound g es → (k x s : ℕ) → k < stages g → x < 2 ^ stageWidth g k → s < sets g
       → cell g (image g (arrayCover g es)) (512 * k + x) (s / 64) (s % 64) ≡ any (setLength g s) (λ o. holdsStage g k x (entryAt es (addressOf g s o)))
   unfolding covered
@@ -117,6 +118,7 @@ module _ (g : Geometry) (ok : valid g ≡ true) (kind : eqb (g .kind) cascaded �
       image-bit g (facts g ok) (arrayCover g es) (512 * k + x) s (row-lt g (facts g ok) k x hk hx) hs
       ∙ any-ext (setLength g s) _ _ (λ o l. covers-stage (entryAt es (addressOf g s o)) k x hk hx)
 
+  -- an accepted write (rule 8.3) and an accepted erase (rule 8.4)
   stage-bits : (t u : Tables) (a : ℕ) (e : Entry) → EveryBit g t u a e → StageBits g t u a e
   unfolding othersCover
   stage-bits t u a e every k x j b hk hx hj =

@@ -1,5 +1,5 @@
--- Statement 5: each number is given exactly when its row of the table applies and no row above it does, and a refused
--- call leaves both tables and the match word as they were. On any tables.
+-- Statement 5: each number is given exactly when its row of the table applies and no row above it does (rule 9.1 of
+-- docs/MEMORY.md), and a refused call leaves both tables and the match word as they were (rule 9.2). On any tables.
 use Prim.Native.Nat.{ℕ}
 use mathlib.Core.Path.{_≡_, refl, sym, ap, _∙_}
 use mathlib.Core.Logic.{_↔_}
@@ -97,7 +97,7 @@ matches-after g t c = go c (firstRefusal (refusals g t c))
     go (firstMatch key) Option.none = sym (found-no-matches (firstFound g t key) [])
     go (allMatch key m) Option.none = refl
 
--- "a refused all-match leaves that match word as lent"
+-- rule 9.2 of the match word alone
 pub refused-lends : (g : Geometry) (t : Tables) (key : ℕ) (m : List ℕ) (n : ℕ) → step g t (allMatch key m) .answer ≡ refused n
     → step g t (allMatch key m) .matches ≡ m
 unfolding lent matchesAfter
@@ -108,7 +108,7 @@ pub refused-keeps : (g : Geometry) (t : Tables) (c : Call (List ℕ)) (n : ℕ) 
 unfolding step outcome
 refused-keeps g t c n e = let stopped = first-refusal (refusals g t c) n (given-exactly g t c n .0 e) in (rw stopped, rw stopped)
 
--- "Read and the matches write no table."
+-- the calls that only look (rule 8.5)
 pub reading-keeps : (g : Geometry) (t : Tables) (a key : ℕ) (m : List ℕ)
     → (step g t (read a) .tables ≡ t) × (step g t (firstMatch key) .tables ≡ t) × (step g t (allMatch key m) .tables ≡ t)
 unfolding step outcome accepted

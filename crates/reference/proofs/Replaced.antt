@@ -65,7 +65,7 @@ gives g t c a e passed good answer h =
     let same : e ≡ storeEntry g t a = cc (answer, rw (passed-none (refusals g t c) passed) at h) in
     (same, rw same (passed-entry g (facts g (passed-valid g t c passed)) t a good))
 
--- "gives the former entry", "gives the entry"
+-- Each accepted write, erase and read (rule 7.4 of docs/MEMORY.md).
 pub write-gives : (g : Geometry) (t : Tables) (a p : ℕ) (e : Entry) → step g t (write a p) .answer ≡ held e → (e ≡ storeEntry g t a) × (wordOf e ≡ storeWord t a)
 unfolding refusals ownRefusals accepted
 write-gives g t a p e h = let passed = held-passed g t (write a p) e h in gives g t (write a p) a e passed (passed .1 .1 .1 .1 .0) refl h

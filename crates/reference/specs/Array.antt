@@ -1,4 +1,5 @@
--- The plain array: D entries and the six calls on them. It knows the geometry, and nothing of tables, rows or searches.
+-- The plain array (docs/MEMORY.md, section 5): D entries and the six calls on them. It knows the geometry, and nothing of
+-- tables, rows or searches.
 use Prim.Native.Nat.{ℕ, _+_, _*_, _/_}
 use mathlib.Core.Path.{_≡_}
 use mathlib.Core.Bool.{Bool, cond, not}
@@ -17,11 +18,11 @@ use Rattle.reference.specs.Entry.{Entry, empty, pattern, Fits, holds}
 use Rattle.reference.specs.Calls.{Call, clear, write, erase, read, firstMatch, allMatch, Answer, refused, cleared, held, at, none, matched}
 use Rattle.reference.specs.Refusals.{badAddress, badPattern}
 
--- "Its state is D entries, each empty or a pattern." Sound arrays are of that kind; every history leaves one.
+-- Any list of entries. Sound ones are arrays of the geometry (rule 5.1); every history leaves one.
 abbrev pub Array : Type 0
 Array = List Entry
 
--- "Clear empties all."
+-- What a clear leaves (rule 5.2).
 unfoldable pub emptied : Geometry → Array
 emptied g = replicate (g .depth) empty
 
@@ -36,13 +37,12 @@ pub record Sound (g : Geometry) (es : Array) : Type 0 where
 abbrev pub holding : Array → (key a : ℕ) → Bool
 holding es key a = holds (entryAt es a) key
 
--- "After a hit at a, w = a / (64 × W) rounded down, plus 1; c = a mod W + 1 in kind 2 and 0 in the others.
--- After none, w = R and c = 0."
+-- The answer of a first-match with w and c by their formulas (rules 5.5 and 5.7).
 unfoldable pub counted : Geometry → Option ℕ → Answer
 counted g (Option.some a) = at a (a / (64 * g .«set_width») + 1) (cond (eqb (g .kind) segmented) (offsetOf g a + 1) 0)
 counted g Option.none = none (rowWords g) 0
 
--- "It refuses with 3, 4 and, for an all-match word of wrong length, 2, in the order below."
+-- The numbers with which the array refuses (rule 5.8).
 unfoldable pub arrayRefusals : Geometry → Call ℕ → List RefusalRow
 arrayRefusals g clear = []
 arrayRefusals g (write a p) = 3 given-when badAddress g a ∷ 4 given-when badPattern g p ∷ []
@@ -55,8 +55,7 @@ pub record ArrayOutcome : Type 0 where
   pub answer : Answer
   pub array : Array
 
--- The calls, where nothing stops them. First-match finds the lowest address that holds the key; all-match gives "bit a mod 64 of
--- word a / 64 set exactly when entry a is p and all other bits 0", and how many addresses hold it.
+-- The calls, where nothing stops them (rules 5.2 to 5.6). Bits of the match word past the last address are 0: there is no entry.
 unfoldable pub arrayAccepted : Geometry → Array → Call ℕ → ArrayOutcome
 arrayAccepted g es clear = record { answer = cleared; array = emptied g }
 arrayAccepted g es (write a p) = record { answer = held (entryAt es a); array = set es a (pattern p) }
@@ -68,7 +67,7 @@ arrayAccepted g es (allMatch key len) = record {
   array = es;
 }
 
--- A refusal "keeps its state".
+-- A refusal keeps every entry (rule 5.8).
 unfoldable pub arrayOutcome : Geometry → Array → Call ℕ → Option ℕ → ArrayOutcome
 arrayOutcome g es c Option.none = arrayAccepted g es c
 arrayOutcome g es c (Option.some n) = record { answer = refused n; array = es }

@@ -1,11 +1,11 @@
--- The six calls with all that each is given, and the answers.
+-- The six calls with all that each is given, and the answers (docs/MEMORY.md, section 7).
 use Prim.Native.Nat.{ℕ}
 use mathlib.Core.List.{List, []}
 use lib.ListN.{length}
 use Rattle.reference.specs.Entry.{Entry}
 
--- All-match is lent a match word of any length and content. The plain array is told its length alone, so a call is over
--- what stands for that word: `Call (List ℕ)` is made on tables and `Call ℕ` on the array.
+-- The match word of an all-match is any (rule 10.1). The plain array is told its length alone (rule 5.8), so a call is over what
+-- stands for that word: `Call (List ℕ)` is made on tables and `Call ℕ` on the array.
 pub data Call (M : Type 0) : Type 0 where
   clear : Call M
   write : (address pattern : ℕ) → Call M
@@ -32,7 +32,7 @@ lent (read a) = []
 lent (firstMatch key) = []
 lent (allMatch key m) = m
 
--- What comes back. Document 01's w is `words-read`, its c `entries-compared`.
+-- What comes back (rules 7.3 to 7.6). `words-read` is w and `entries-compared` is c.
 pub data Answer : Type 0 where
   refused : (number : ℕ) → Answer
   cleared : Answer

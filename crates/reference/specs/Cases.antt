@@ -1,5 +1,5 @@
--- Document 01's cases P1 to P10 as rows of one table, single calls on damaged tables as rows of another, and tables that do or
--- do not mirror their store as rows of a third. proofs/Cases.antt computes all three.
+-- The cases P1 to P10 (docs/MEMORY.md, section 15) as rows of one table, single calls on damaged tables as rows of another, and
+-- tables that do or do not mirror their store as rows of a third. proofs/Cases.antt computes all three.
 use Prim.Native.Nat.{ℕ, _/_, _%_}
 use mathlib.Core.Bool.{Bool, true, false, cond, not, _&&_}
 use mathlib.Core.List.{List, [], _∷_}
@@ -23,7 +23,7 @@ pub record Case : Type 0 where
   pub calls : List (Call (List ℕ))
   pub answers : List Answer
 
--- Document 01's S and K, and the geometry of P8.
+-- S, K and the geometry of P8.
 abbrev pub S : Geometry
 S = record { kind = 2; depth = 8; «pattern_width» = 2; «set_width» = 2 }
 
@@ -47,7 +47,7 @@ onS = cleared-first S (unclear 8 4)
 abbrev pub onK : List (Call (List ℕ)) → List Answer → Case
 onK = cleared-first K (unclear 2 514)
 
--- P10's tables: clear, and then word 1 of the indicators made 2 by hand.
+-- P10's tables: those of a clear, but that word 1 of the indicators is 2.
 abbrev pub damaged : Tables
 damaged = record { store = clearTables S .store; indicators = set (clearTables S .indicators) 1 2 }
 

@@ -1,4 +1,4 @@
--- An entry: empty or a pattern. Only here does an entry become a word of the store, or the reverse.
+-- An entry: empty or a pattern (docs/MEMORY.md, section 3). Only here does an entry become a word of the store, or the reverse.
 use Prim.Native.Nat.{ℕ, _<_}
 use mathlib.Core.Path.{_≡_}
 use mathlib.Core.Bool.{Bool, false, cond}
@@ -10,16 +10,16 @@ pub data Entry : Type 0 where
   empty : Entry
   pattern : ℕ → Entry
 
--- "An empty address holds 4,294,967,295, which no pattern reaches."
+-- The word of an empty address (rule 3.2). Every pattern is below it.
 abbrev pub emptyWord : ℕ
 emptyWord = 4294967295
 
--- The word of the store for an entry.
+-- The word of the store for an entry (rule 3.2).
 unfoldable pub wordOf : Entry → ℕ
 wordOf empty = emptyWord
 wordOf (pattern p) = p
 
--- What a word of the store holds. One that is neither empty nor a pattern holds nothing.
+-- What a word of the store holds. One that is neither empty nor a pattern holds nothing (rule 6.4).
 unfoldable pub entryOf : Geometry → ℕ → Entry
 entryOf g w = cond (ltb w (patterns g)) (pattern w) empty
 

@@ -1,4 +1,4 @@
--- A history run on tables and on the plain array.
+-- A history run on tables and on the plain array (docs/MEMORY.md, section 10).
 use Prim.Native.Nat.{ℕ}
 use mathlib.Core.List.{List, map}
 use Rattle.machines.specs.Machine as machine
@@ -32,6 +32,6 @@ arrayAnswers g es cs = map (λ (o : ArrayOutcome). o .answer) (machine.run (onAr
 abbrev pub arrayAfter : Geometry → Array → List (Call ℕ) → Array
 arrayAfter g = machine.after (onArray g)
 
--- The array of a history that begins with an accepted clear: it begins empty.
+-- The array of a history that begins with an accepted clear: it begins empty (rule 10.2).
 abbrev pub arrayOf : Geometry → History → Array
 arrayOf g cs = arrayAfter g (emptied g) (map shape cs)

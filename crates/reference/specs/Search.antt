@@ -1,4 +1,4 @@
--- The searches of both matches on any tables.
+-- The searches of both matches on any tables (docs/MEMORY.md, section 8).
 use Prim.Native.Nat.{ℕ, _+_, _*_, _/_, _%_}
 use mathlib.Core.Bool.{Bool, true, false, not, _&&_, _||_}
 use mathlib.Core.List.{List, foldr}
@@ -16,27 +16,26 @@ use Rattle.geometry.specs.Stages.{rowsOf}
 use Rattle.reference.specs.Calls.{Answer, refused, at, none}
 use Rattle.reference.specs.Tables.{Tables, storeWord}
 
--- Word j of the key's rows, joined bit by bit with and; padding bits are dropped.
+-- Word j of the joined row of the key, padding bits dropped; and which sets are indicated (rule 8.6).
 unfoldable pub joined : Geometry → Tables → (key j : ℕ) → ℕ
 joined g t key j = foldr (λ r w. bitAnd (getD (t .indicators) (rowWords g * r + j) 0) w) (rowMask (sets g) j) (rowsOf g key)
 
 unfoldable pub indicated : Geometry → Tables → (key set : ℕ) → Bool
 indicated g t key s = bit (joined g t key (s / 64)) (s % 64)
 
--- The row words, "ascending from word 0 up to the first that is not zero".
+-- The words of the joined row, up to one that is not 0 (rule 8.7). The looks are w (rule 8.10).
 unfoldable pub seekWord : Geometry → Tables → (key : ℕ) → Sought
 seekWord g t key = seek (λ j. not (eqb (joined g t key j) 0)) (rowWords g) 0 0
 
--- The entries of a set, "ascending in the indicated set up to the equal one".
+-- The entries of a set, up to one that is the key (rule 8.7). The looks are c (rule 8.10).
 unfoldable pub seekEntry : Geometry → Tables → (key set : ℕ) → Sought
 seekEntry g t key s = seek (λ o. eqb (storeWord t (addressOf g s o)) key) (setLength g s) 0 0
 
--- "The lowest set bit names the set."
+-- The first indicated set, where row word j is the first that is not 0 (rule 8.7).
 unfoldable pub lowestSet : Geometry → Tables → (key j : ℕ) → ℕ
 lowestSet g t key j = 64 * j + trailingZeros 64 (joined g t key j)
 
--- What a first-match finds: an address; no indicated set; or a false set, which is indicated and has no entry equal to the
--- key.
+-- What a first-match finds: an address; no indicated set; or a false set (rule 8.9).
 pub data Found : Type 0 where
   hit : (address words-read entries-compared : ℕ) → Found
   nothing : (words-read entries-compared : ℕ) → Found
@@ -47,7 +46,7 @@ isFalse (hit a w c) = false
 isFalse (nothing w c) = false
 isFalse falseSet = true
 
--- "In kind 2 the entries of that set are compared; in the others the set is the address."
+-- What an indicated set gives. Kind 2 alone asks the store (rule 8.7).
 unfoldable pub inSet : Geometry → Tables → (key set words-read : ℕ) → Found
 inSet g t key s w =
     elim (eqb (g .kind) segmented) [
@@ -58,7 +57,7 @@ inSet g t key s w =
 unfoldable pub firstFound : Geometry → Tables → (key : ℕ) → Found
 firstFound g t key = elim (seekWord g t key) [ found j w ↦ inSet g t key (lowestSet g t key j) w | missed w ↦ nothing w 0 ]
 
--- Whether any indicated set is false.
+-- Whether any indicated set is false (rule 8.9).
 unfoldable pub anyIsFalse : Geometry → Tables → (key : ℕ) → Bool
 anyIsFalse g t key = any (sets g) (λ s. indicated g t key s && isFalse (inSet g t key s 0))
 
@@ -68,7 +67,7 @@ answerOf (hit a w c) = at a w c
 answerOf (nothing w c) = none w c
 answerOf falseSet = refused 6
 
--- Whether all-match takes an address of an indicated set: one below the depth, whose entry is equal to the key in kind 2.
+-- Whether all-match takes an address of an indicated set (rule 8.8): one below the depth, whose entry is the key in kind 2.
 abbrev pub chosen : Geometry → Tables → (key a : ℕ) → Bool
 chosen g t key a = ltb a (g .depth) && (not (eqb (g .kind) segmented) || eqb (storeWord t a) key)
 

@@ -1,4 +1,5 @@
--- What is shown of the steps, in the words of the demands. The theorems are in proofs/; docs/CLAIMS.md names each.
+-- What is shown of the steps, with the rules of docs/MEMORY.md that it says. The theorems are in proofs/; docs/CLAIMS.md names
+-- each.
 use Prim.Native.Nat.{ℕ, _+_, _*_, _/_, _%_, _^_, _<_}
 use mathlib.Core.Path.{_≡_}
 use mathlib.Core.Bool.{Bool, true, false, cond, not, _&&_}
@@ -32,7 +33,7 @@ pub record Begun (g : Geometry) (t : Tables) (es : Array) : Type 0 where
 
 -- A history on tables is that of the plain array that begins as es and is fed the shape of each call: every answer; the
 -- match word that each call leaves, the lent one after a refusal; and at the end the store and every indicator word,
--- padding bits included.
+-- padding bits included (rules 10.2 and 10.3).
 pub record Follows (g : Geometry) (es : Array) (t : Tables) (cs : History) : Type 0 where
   pub answers : map (λ (o : Outcome). o .answer) (run g t cs) ≡ arrayAnswers g es (map shape cs)
   pub matches : map (λ (o : Outcome). o .matches) (run g t cs) ≡ zipWith matchesAfter (map (λ (o : Outcome). o .answer) (run g t cs)) (map lent cs)
@@ -44,11 +45,11 @@ pub record Follows (g : Geometry) (es : Array) (t : Tables) (cs : History) : Typ
 abbrev pub stores : Tables → (key a : ℕ) → Bool
 stores t key a = eqb (storeWord t a) key
 
--- A false set, should it be indicated: kind 2, and no entry of it is equal to the key.
+-- A false set, should it be indicated: kind 2, and no entry of it is the key (rule 8.9).
 abbrev pub NoEqual : Geometry → Tables → (key set : ℕ) → Type 0
 NoEqual g t key s = (eqb (g .kind) segmented ≡ true) × Nowhere (setLength g s) (λ o. stores t key (addressOf g s o))
 
--- What a first-match answers: the first indicated set decides, and in kind 2 the first equal entry in it.
+-- What a first-match answers: the first indicated set decides, and in kind 2 the first equal entry in it (rules 8.7 to 8.10).
 pub data FirstOnAny (g : Geometry) (t : Tables) (key : ℕ) (answer : Answer) : Type 0 where
   no-set : Nowhere (sets g) (indicated g t key) → answer ≡ none (rowWords g) 0 → FirstOnAny g t key answer
   set-alone : (s : ℕ) → First (sets g) (indicated g t key) s → eqb (g .kind) segmented ≡ false
@@ -58,8 +59,8 @@ pub data FirstOnAny (g : Geometry) (t : Tables) (key : ℕ) (answer : Answer) : 
       → answer ≡ at (addressOf g s o) (s / 64 + 1) (o + 1) → FirstOnAny g t key answer
   no-equal : (s : ℕ) → First (sets g) (indicated g t key) s → NoEqual g t key s → answer ≡ refused 6 → FirstOnAny g t key answer
 
--- What an all-match answers: 6 where some indicated set is false; else every address of an indicated set, in kind 2 those
--- that have the key.
+-- What an all-match answers: 6 where some indicated set is false (rule 8.9); else every address of an indicated set, in kind 2
+-- those that have the key (rule 8.8).
 pub data AllOnAny (g : Geometry) (t : Tables) (key : ℕ) (answer : Answer) : Type 0 where
   all-taken : ((s : ℕ) → s < sets g → indicated g t key s ≡ true → NoEqual g t key s → ⊥)
       → answer ≡ matched (bitWords (matchWords g) (taken g t key)) (count (g .depth) (taken g t key))
@@ -69,7 +70,7 @@ pub data AllOnAny (g : Geometry) (t : Tables) (key : ℕ) (answer : Answer) : Ty
 -- ---- demand 2, where the indicators mirror the store
 
 -- Tables of the right lengths whose indicators mirror the store: every bit that belongs to a set is as the store's entries
--- would have it. Padding bits are free, and so are entries that are no pattern: they cover nothing.
+-- would have it. Padding bits are free, and so are entries that are no pattern: they cover nothing (rule 6.4).
 pub record Mirrors (g : Geometry) (t : Tables) : Type 0 where
   pub entries : length (t .store) ≡ g .depth
   pub words : length (t .indicators) ≡ indicatorWords g
@@ -81,23 +82,24 @@ pub record DifferInPadding (g : Geometry) (ind others : List ℕ) : Type 0 where
   pub words : length others ≡ length ind
   pub bits : (m b : ℕ) → m < indicatorWords g → b < 64 → 64 * (m % rowWords g) + b < sets g → bit (getD others m 0) b ≡ bit (getD ind m 0) b
 
--- A first-match answers with the lowest address that has the key, with document 01's w and c; or none, and no address
--- has it.
+-- A first-match answers with the smallest address that has the key, or with none where no address has it; w and c are the
+-- formulas of rule 5.7.
 pub data FirstIs (g : Geometry) (t : Tables) (key : ℕ) (answer : Answer) : Type 0 where
   lowest : (a : ℕ) → First (g .depth) (stores t key) a
       → answer ≡ at a (a / (64 * g .«set_width») + 1) (cond (eqb (g .kind) segmented) (offsetOf g a + 1) 0)
       → FirstIs g t key answer
   absent : Nowhere (g .depth) (stores t key) → answer ≡ none (rowWords g) 0 → FirstIs g t key answer
 
--- An all-match answers with the word in which the bit of each address says whether it has the key, and with their number.
+-- An all-match answers with the word in which the bit of each address says whether it has the key, and with their number
+-- (rule 5.6).
 abbrev pub AllAre : Geometry → Tables → (key : ℕ) → Answer → Type 0
 AllAre g t key answer =
     answer ≡ matched (bitWords (matchWords g) (stores t key)) (count (g .depth) (stores t key))
 
 -- ---- demand 2, on any tables: what becomes of each bit and entry when e comes to address a
 
--- The bit of row r in the set of a: set where the new entry covers r; else cleared where the old one covers r and no
--- other address of the set does; else as it was. Every other bit, padding bits too, is as it was.
+-- The bit of row r in the set of a: 1 where the new entry covers r; else 0 where the old one covers r and none of the set's other
+-- addresses does; else as it was. Every other bit, padding bits too, is as it was (rules 8.2, 8.4 and 8.5).
 pub record EveryBit (g : Geometry) (t u : Tables) (a : ℕ) (e : Entry) : Type 0 where
   pub bits : (r j b : ℕ) → j < rowWords g
       → cell g (u .indicators) r j b
@@ -109,15 +111,15 @@ pub record EveryBit (g : Geometry) (t u : Tables) (a : ℕ) (e : Entry) : Type 0
   pub others : (b : ℕ) → (b ≡ a → ⊥) → storeWord u b ≡ storeWord t b
   pub entries : length (u .store) ≡ length (t .store)
 
--- ---- the same in document 01's own sentences, kind by kind
+-- ---- the same kind by kind: rules 8.3 and 8.4
 
 -- Whether another address of a's set holds the pattern r.
 unfoldable pub othersHold : Geometry → Tables → (a r : ℕ) → Bool
 othersHold g t a r =
     any (setLength g (setOf g a)) (λ o. not (eqb (addressOf g (setOf g a) o) a) && holds (storeEntry g t (addressOf g (setOf g a) o)) r)
 
--- Kinds 0 and 2. In a's set the bit of r is set where the new entry is r, and cleared "exactly when q is a pattern other
--- than p and no other address of the set holds q"; an erase's new entry is empty and sets nothing. No other bit changes.
+-- Kinds 0 and 2. In a's set the bit of r becomes 1 where the new entry is r; else 0 where the old one is r and the set's other
+-- addresses do not hold it. An erase's new entry is empty and sets nothing. No other bit changes.
 abbrev pub PatternBits : Geometry → (before after : Tables) → ℕ → Entry → Type 0
 PatternBits g t u a e =
     (r j b : ℕ) → j < rowWords g
@@ -131,8 +133,8 @@ unfoldable pub holdsStage : Geometry → (k x : ℕ) → Entry → Bool
 holdsStage g k x empty = false
 holdsStage g k x (pattern p) = eqb x (stage g k p)
 
--- Kind 1. "Each slice sets row p_k and, if q is a pattern, clears row q_k where the two differ"; an erase clears row q_k
--- in every slice. No other bit changes, and no other address shares the set.
+-- Kind 1, by stages. In a's set the bit of value x becomes 1 where x is the new entry's; else 0 where it is the old one's. An
+-- erase's new entry is empty and sets nothing. No other bit changes, and no other address shares the set.
 abbrev pub StageBits : Geometry → (before after : Tables) → ℕ → Entry → Type 0
 StageBits g t u a e =
     (k x j b : ℕ) → k < stages g → x < 2 ^ stageWidth g k → j < rowWords g

@@ -1,4 +1,4 @@
--- The six calls on any tables: any geometry, any lengths, any content.
+-- The six calls on any tables: any geometry, any lengths, any content (docs/MEMORY.md, sections 8 and 9).
 use Prim.Native.Nat.{ℕ}
 use mathlib.Core.Bool.{Bool, false, not, _||_}
 use mathlib.Core.List.{List, [], _∷_}
@@ -19,11 +19,11 @@ use Rattle.reference.specs.Tables.{Tables, storeWord, storeEntry}
 use Rattle.reference.specs.Update.{replaced}
 use Rattle.reference.specs.Search.{isFalse, firstFound, anyIsFalse, answerOf, takenWords}
 
--- "store not D, indicators not R × all rows"
+-- Refusal 2, by the tables (rule 9.1).
 unfoldable pub badLengths : Geometry → Tables → Bool
 badLengths g t = not (tablesFit g (length (t .store)) (length (t .indicators)))
 
--- "or match word not D / 64 rounded up": the calls with no match word pass.
+-- Refusal 2, by the match word: the calls that have none pass.
 unfoldable pub badMatches : Geometry → Call (List ℕ) → Bool
 badMatches g clear = false
 badMatches g (write a p) = false
@@ -32,7 +32,7 @@ badMatches g (read a) = false
 badMatches g (firstMatch key) = false
 badMatches g (allMatch key m) = not (eqb (length m) (matchWords g))
 
--- "the entry at that address is neither empty nor below 2^P"
+-- Refusal 5.
 unfoldable pub badEntry : Geometry → Tables → ℕ → Bool
 badEntry g t a = not (eqb (storeWord t a) emptyWord || ltb (storeWord t a) (patterns g))
 
@@ -45,7 +45,7 @@ ownRefusals g t (read a) = 3 given-when badAddress g a ∷ 5 given-when badEntry
 ownRefusals g t (firstMatch key) = 4 given-when badPattern g key ∷ 6 given-when isFalse (firstFound g t key) ∷ []
 ownRefusals g t (allMatch key m) = 4 given-when badPattern g key ∷ 6 given-when anyIsFalse g t key ∷ []
 
--- The whole table at a call.
+-- The whole table at a call (rule 9.1).
 unfoldable pub refusals : Geometry → Tables → Call (List ℕ) → List RefusalRow
 refusals g t c = 1 given-when not (valid g) ∷ 2 given-when (badLengths g t || badMatches g c) ∷ ownRefusals g t c
 
@@ -55,11 +55,11 @@ pub record Outcome : Type 0 where
   pub tables : Tables
   pub matches : List ℕ
 
--- "Clear makes every entry empty and every indicator word 0."
+-- What a clear leaves (rule 8.1).
 unfoldable pub clearTables : Geometry → Tables
 clearTables g = record { store = replicate (g .depth) emptyWord; indicators = replicate (indicatorWords g) 0 }
 
--- The calls, where nothing stops them.
+-- The calls, where nothing stops them (rules 7.3 to 7.6, 8.1 to 8.8).
 unfoldable pub accepted : Geometry → Tables → Call (List ℕ) → Outcome
 accepted g t clear = record { answer = cleared; tables = clearTables g; matches = [] }
 accepted g t (write a p) = record { answer = held (storeEntry g t a); tables = replaced g t a (pattern p); matches = [] }
@@ -72,7 +72,7 @@ accepted g t (allMatch key m) = record {
   matches = takenWords g t key;
 }
 
--- "The number is all that comes back, and every table and output is as before the call."
+-- A refusal gives its number and leaves all that was lent alone (rule 9.2).
 unfoldable pub outcome : Geometry → Tables → Call (List ℕ) → Option ℕ → Outcome
 outcome g t c Option.none = accepted g t c
 outcome g t c (Option.some n) = record { answer = refused n; tables = t; matches = lent c }

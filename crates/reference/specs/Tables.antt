@@ -1,4 +1,4 @@
--- The lent tables: the store and the indicators.
+-- The lent tables: the store and the indicators (docs/MEMORY.md, section 3).
 use Prim.Native.Nat.{ℕ}
 use mathlib.Core.List.{List}
 use lib.ListN.{getD}
@@ -12,6 +12,6 @@ pub record Tables : Type 0 where
 abbrev pub storeWord : Tables → ℕ → ℕ
 storeWord t a = getD (t .store) a emptyWord
 
--- What the store holds at an address.
+-- What the store holds at an address (rule 3.1).
 abbrev pub storeEntry : Geometry → Tables → ℕ → Entry
 storeEntry g t a = entryOf g (storeWord t a)

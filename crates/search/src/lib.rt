@@ -1,6 +1,6 @@
-// The search of first-match, and the joined word that both matches look at. What the functions here ask is what the check of
-// the call has shown: a valid geometry and its sizes, and tables of their lengths. The loops over row words show that a word is
-// one of the row.
+// The search of first-match, and the joined word that both matches look at (docs/MEMORY.md, section 8). What the functions here
+// ask is what the check of the call has shown: a valid geometry and its sizes, and tables of their lengths. The loops over row
+// words show that a word is one of the row.
 use calls::Answer;
 use checks::Refusal;
 use geometry::Geometry;
@@ -19,7 +19,7 @@ ghost use Rattle.reference.specs.Search.{joined, firstFound, answerOf};
 ghost use Rattle.checks.specs.Passed.{Lent};
 ghost use Rattle.calls.specs.Answers.{answerFor, tables};
 
-// A word of the key's rows, joined with and; padding bits are dropped.
+// A word of the joined row (rule 8.6); padding bits are dropped.
 pub fn joined(g: Geometry, sizes: Sizes, indicators: &[u64], key: u32, j: RowWord) -> u64
     requires { ⌜ Lent g sizes (g .depth) (length (now indicators)) × (j .0 < rowWords g) ⌝ }
     ensures { λ r. ⌜ r ≡ joined g (tables [] (now (indicators .entry))) key (j .0) ⌝ }
@@ -39,14 +39,14 @@ enum Stop {
     // A row word that is not 0, or 0 past the last one; which it is, and the words read. Where a set is an address, that tells
     // the rest.
     Word(u64, RowWord, u16),
-    // The address of an entry equal to the key; the words read and the entries compared.
+    // The address of an entry that is the key; the words read and the entries compared.
     Entry(Address, u16, u16),
-    // An indicated set with no such entry.
+    // A false set (rule 8.9).
     FalseSet,
 }
 
-// The row words, ascending up to the first that is not 0; in the segmented kind then the entries of the set that its lowest
-// bit names, up to the equal one.
+// Looks at the words of the joined row until one is not 0; in the segmented kind then at the entries of the first indicated set,
+// until one is the key (rule 8.7). The looks are counted (rule 8.10).
 pub fn first(g: Geometry, sizes: Sizes, store: &[u32], indicators: &[u64], key: u32) -> Answer
     requires { ⌜ Lent g sizes (length (now store)) (length (now indicators)) ⌝ }
     ensures { λ r. ⌜ answerFor r [] ≡ answerOf (firstFound g (tables (now (store .entry)) (now (indicators .entry))) key) ⌝ }

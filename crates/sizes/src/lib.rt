@@ -1,4 +1,4 @@
-// Whether four numbers are a geometry, and the sizes that follow from one that is.
+// Whether four numbers are a geometry, and the sizes that follow from one that is (docs/MEMORY.md, sections 2 to 4).
 //
 // What follows from a valid geometry asks for one: the check of a call tests that before it calls these functions. Where a
 // stage is asked for, `rows` shows that the last is one, and who calls `row` that its own is.

@@ -9,7 +9,8 @@ use Rattle.reference.specs.Tables.{Tables, storeEntry}
 use Rattle.reference.specs.Update.{replaced}
 use Rattle.reference.specs.Steps.{Outcome, badEntry}
 
--- The entry e comes to address a: row 5 of the table, or the former entry and the tables that follow.
+-- The entry e comes to address a: refusal 5, or the former entry and the tables that follow (rules 7.4, 8.2 and 8.4 of
+-- docs/MEMORY.md).
 unfoldable pub replacing : Geometry → Tables → (a : ℕ) → Entry → Outcome
 replacing g t a e =
     cond (badEntry g t a) (record { answer = refused 5; tables = t; matches = [] })

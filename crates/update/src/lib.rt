@@ -1,6 +1,6 @@
-// How write and erase change the tables: another entry comes to an address, and the bits of its set follow. What the functions
-// here ask is what the check of the call has shown: a valid geometry and its sizes, tables of their lengths, an address below
-// the depth.
+// How write and erase change the tables: another entry comes to an address, and the bits of its set follow (rules 8.2 and 8.4 of
+// docs/MEMORY.md). What the functions here ask is what the check of the call has shown: a valid geometry and its sizes, tables
+// of their lengths, an address below the depth.
 use calls::Answer;
 use calls::Entry;
 use checks::Refusal;

@@ -1,4 +1,4 @@
--- Laws of a search, and of the lowest set bit of a row of any number of words.
+-- Laws of a search, and of the first bit that is 1 in a row of any number of words.
 use Prim.Native.Nat.{ℕ, zero, suc, _+_, _-_, _*_, _/_, _%_, _^_, _<_, _≤_}
 use mathlib.Core.Logic.{_⊎_, inl, inr}
 use mathlib.Core.Path.{_≡_, refl}

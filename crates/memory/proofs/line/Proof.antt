@@ -1,4 +1,4 @@
--- `memory::line` meets its contract: the set's line, or an empty part where the geometry, the length or the set is bad.
+-- `memory::line` meets its contract: the line, and a part of length 0 where the geometry, the store's length or the set is bad.
 use Prim.Native.Nat.{ℕ, _<_}
 use mathlib.Core.Path.{_≡_, refl, sym, _∙_}
 use mathlib.Core.List.{List, []}

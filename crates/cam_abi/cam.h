@@ -1,13 +1,35 @@
-/* The six calls of the search memory, in libcam_abi.a (`rt staticlib cam_abi`).
+/* The search memory in libcam_abi.a (`rt staticlib cam_abi`): its six calls, and the lengths of what is lent to them.
  *
- * A geometry is four numbers: kind (0 transposed, 1 cascaded, 2 segmented), depth, pattern width and set width. The caller
- * lends both tables with every call: the store, `depth` numbers of 32 bits, and the indicators, words of 64 bits; to all-match
- * a match word too. A slice is a pointer and its length in elements. Of length 0 or more, its elements must be there, the
- * pointer must be aligned and not null, and a slice that a call may write must not overlap another of the same call. Nothing
- * else is asked: any geometry, length, content, address and pattern may be passed, and what is bad is refused.
+ * GEOMETRY. Four numbers: the kind, 0 for transposed, 1 for cascaded and 2 for segmented; the depth, 1 to 4096; the pattern width,
+ * 1 to 12 bits, in kind 1 up to 27; and the set width, which is 1, but in kind 2 any divisor of the depth up to 64.
  *
- * A result below CAM_ACCEPTED is the number of a refusal, and then nothing was changed. Any other is CAM_ACCEPTED and the
- * value that stands at each function. */
+ * RESULTS. Below CAM_ACCEPTED a result is the number of a refusal, and then nothing was changed. Any other is CAM_ACCEPTED and
+ * the value that stands at each function.
+ *
+ * SLICES. The caller lends both tables with every call, and to all-match a match word: each is a pointer and a length in elements,
+ * which must all be there. The pointer must be aligned and not null, at length 0 too, where the address of any variable of
+ * the element's type will do. A slice that a call may write must not overlap another of the same call. Nothing else is asked: any
+ * geometry, length, content, address and pattern may be passed, and what is bad is refused.
+ *
+ * LENGTHS, division rounding down as in C. The last two are what cam_indicator_words and cam_match_words give.
+ *
+ *     sets        depth / set_width
+ *     row_words   (sets + 63) / 64                           a bit for every set
+ *     stages      1; kind 1: (pattern_width + 8) / 9
+ *     rows        1 << pattern_width; kind 1: 512 * (stages - 1) + (1 << (pattern_width - 9 * (stages - 1)))
+ *     store       depth, numbers of 32 bits                  number a is what address a holds: a pattern, or CAM_EMPTY
+ *     indicators  row_words * rows, words of 64 bits
+ *     matches     (depth + 63) / 64, words of 64 bits        bit a % 64 of word a / 64 is that of address a
+ *
+ * INDICATORS. Bits are counted from the low end. Address a is one of set a / set_width, and set s has in row r
+ *
+ *     bit s % 64 of word row_words * r + s / 64
+ *
+ * The row of a pattern is its own number. Kind 1 cuts a pattern into stages (document 01's slices): stage k is its bits 9 * k to
+ * 9 * k + 8, as far as it has them, and its row there is 512 * k + the value of these bits. So a pattern has one row, in kind 1 one
+ * in each stage. From a clear on, a bit is 1 exactly where an address of its set holds a pattern that has its row. The bits past
+ * the last set, which fill up the last word of each row, are padding: cam_clear makes them 0, no other call changes them, and no
+ * answer depends on them. */
 #ifndef CAM_H
 #define CAM_H
 
@@ -20,14 +42,16 @@ extern "C" {
 
 #define CAM_ACCEPTED 256u
 
-/* The refusals, in the order in which they are tested. */
+/* The refusals, in the order in which they are tested. The last two tell of tables that something other than these calls has
+ * written since the clear, or that were never cleared. */
 enum cam_refusal {
-    CAM_BAD_GEOMETRY = 1,
-    CAM_BAD_LENGTHS = 2,
-    CAM_BAD_ADDRESS = 3,
-    CAM_BAD_PATTERN = 4,
-    CAM_BAD_ENTRY = 5,
-    CAM_FALSE_SET = 6
+    CAM_BAD_GEOMETRY = 1, /* the four numbers are no geometry */
+    CAM_BAD_LENGTHS = 2,  /* the store, the indicators or the match word has another length than above */
+    CAM_BAD_ADDRESS = 3,  /* the address is not below the depth */
+    CAM_BAD_PATTERN = 4,  /* the pattern has more bits than the pattern width */
+    CAM_BAD_ENTRY = 5,    /* write, erase, read: the store has at the address neither CAM_EMPTY nor a pattern */
+    CAM_FALSE_SET = 6     /* kind 2: a set's bit is 1 in the pattern's row, and no address of the set holds the pattern; first-match
+                           * looks at the first such bit alone, all-match at every one */
 };
 
 /* The store's number for an empty address. */
@@ -36,7 +60,13 @@ enum cam_refusal {
 /* The address in the value of a first-match that found none. */
 #define CAM_NONE 65535u
 
-/* Empties every address. The value is 0. */
+/* How many words the indicators of a geometry have, at most 262144. The only refusal is CAM_BAD_GEOMETRY. */
+uint64_t cam_indicator_words(uint32_t kind, uint32_t depth, uint32_t pattern_width, uint32_t set_width);
+
+/* How many words a match word has, at most 64. The only refusal is CAM_BAD_GEOMETRY. */
+uint64_t cam_match_words(uint32_t kind, uint32_t depth, uint32_t pattern_width, uint32_t set_width);
+
+/* Empties every address, whatever the tables held. The value is 0. */
 uint64_t cam_clear(uint32_t kind, uint32_t depth, uint32_t pattern_width, uint32_t set_width,
                    uint32_t *store, size_t store_len, uint64_t *indicators, size_t indicators_len);
 
@@ -61,12 +91,13 @@ uint64_t cam_first_match(uint32_t kind, uint32_t depth, uint32_t pattern_width, 
                          const uint32_t *store, size_t store_len, const uint64_t *indicators, size_t indicators_len,
                          uint32_t pattern);
 
-/* Every address that holds a pattern: bit a % 64 of word a / 64 of the match word. The value is their number. */
+/* Every address that holds a pattern: its bit of the match word is 1, and every other bit 0. The value is their number. */
 uint64_t cam_all_match(uint32_t kind, uint32_t depth, uint32_t pattern_width, uint32_t set_width,
                        const uint32_t *store, size_t store_len, const uint64_t *indicators, size_t indicators_len,
                        uint64_t *matches, size_t matches_len, uint32_t pattern);
 
-/* Of an accepted first-match. */
+/* The parts of a first-match's result: the address or CAM_NONE, the row words read, the entries compared. Only for a result of
+ * cam_first_match that is no refusal; of any other number they mean nothing. */
 static inline uint32_t cam_address(uint64_t result) { return (uint32_t)((result - CAM_ACCEPTED) % 65536); }
 static inline uint32_t cam_words_read(uint64_t result) { return (uint32_t)((result - CAM_ACCEPTED) / 65536 % 65536); }
 static inline uint32_t cam_entries_compared(uint64_t result) { return (uint32_t)((result - CAM_ACCEPTED) >> 32); }

@@ -1,9 +1,12 @@
--- The examples hold: antt computes the number of each answer, and the geometry.
+-- The examples hold: antt computes the number of each answer and of each length, and the geometry.
 use mathlib.Core.Path.{_≡_, refl}
 use mathlib.Core.List.{map}
+use Rattle.geometry.specs.Valid.{valid, kindRule}
+use Rattle.geometry.specs.Sizes.{sets, rowWords, matchWords}
+use Rattle.geometry.specs.Stages.{stages, stageWidth, rows, indicatorWords}
 use Rattle.reference.specs.Entry.{wordOf}
-use Rattle.cam_abi.specs.Codes.{codeOf, four}
-use Rattle.cam_abi.specs.Examples.{Example, codes, oneToFour}
+use Rattle.cam_abi.specs.Codes.{codeOf, sizeCode, four}
+use Rattle.cam_abi.specs.Examples.{Example, codes, Size, size, sizes, oneToFour}
 
 pub codes-hold : map (λ (e : Example). codeOf (e .answer)) codes ≡ map (λ (e : Example). e .number) codes
 unfolding wordOf codes
@@ -12,3 +15,7 @@ codes-hold = refl
 pub four-holds : four 1 2 3 4 ≡ oneToFour
 unfolding oneToFour
 four-holds = refl
+
+pub sizes-hold : map (λ (s : Size). size (s .geometry) (sizeCode (s .geometry) indicatorWords) (sizeCode (s .geometry) matchWords)) sizes ≡ sizes
+unfolding sizes sizeCode valid kindRule sets rowWords matchWords stages stageWidth rows indicatorWords
+sizes-hold = refl

@@ -1,4 +1,5 @@
 pub mod Coding
 pub mod Told
 pub mod Histories
+pub mod Sizing
 pub mod Examples

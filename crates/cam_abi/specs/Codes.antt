@@ -1,11 +1,12 @@
--- The number that stands for an answer, what it gives back, and what an exported function gives and leaves (docs/MEMORY.md,
--- section 12).
+-- The number that stands for an answer, what it gives back, and what an exported function gives and leaves; the number for a
+-- length (docs/MEMORY.md, section 12).
 use Prim.Native.Nat.{ℕ, _+_, _-_, _*_, _/_, _%_}
 use mathlib.Core.Path.{_≡_}
 use mathlib.Core.Bool.{cond}
 use mathlib.Core.List.{List}
 use lib.Dec.{eqb, ltb}
 use Rattle.geometry.specs.declared.Geometry.{Geometry}
+use Rattle.geometry.specs.Valid.{valid}
 use Rattle.reference.specs.Entry.{Entry, empty, pattern, emptyWord, wordOf}
 use Rattle.reference.specs.Calls.{Call, clear, write, erase, read, firstMatch, allMatch, Answer, refused, cleared, held, at, none, matched}
 use Rattle.reference.specs.Tables.{Tables}
@@ -42,6 +43,10 @@ told c n m = cond (ltb n 256) (refused n) (valueTold c (n - 256) m)
 
 abbrev pub four : (kind depth width set : ℕ) → Geometry
 four k d p w = record { kind = k; depth = d; «pattern_width» = p; «set_width» = w }
+
+-- The number for a length that follows from a geometry: 256 and the words, or refusal 1 where the four numbers are no geometry.
+unfoldable pub sizeCode : Geometry → (words : Geometry → ℕ) → ℕ
+sizeCode g words = cond (valid g) (256 + words g) 1
 
 -- The number is that of the step's answer, and the tables and the match word are the step's.
 pub record Coded (g : Geometry) (c : Call (List ℕ)) (r : ℕ) (before after : Tables) (now : List ℕ) : Type 0 where

@@ -1,10 +1,12 @@
--- Answers with the numbers that stand for them, as rows of one table, and a geometry of four numbers that differ.
+-- Answers with the numbers that stand for them and geometries with those for their lengths, as rows of two tables, and a geometry
+-- of four numbers that differ.
 -- proofs/Examples.antt computes them.
 use Prim.Native.Nat.{ℕ}
 use mathlib.Core.List.{List, [], _∷_}
 use Rattle.geometry.specs.declared.Geometry.{Geometry}
 use Rattle.reference.specs.Entry.{empty, pattern}
 use Rattle.reference.specs.Calls.{Answer, refused, cleared, held, at, none, matched}
+use Rattle.cam_abi.specs.Codes.{four}
 
 pub record Example : Type 0 where
   pub answer : Answer
@@ -28,3 +30,30 @@ codes =
 
 unfoldable pub oneToFour : Geometry
 oneToFour = record { kind = 1; depth = 2; «pattern_width» = 3; «set_width» = 4 }
+
+-- Four numbers, with what is given for their indicators and for their match word.
+pub record Size : Type 0 where
+  pub geometry : Geometry
+  pub indicators : ℕ
+  pub matches : ℕ
+
+abbrev pub size : Geometry → (indicators matches : ℕ) → Size
+size g i m = record { geometry = g; indicators = i; matches = m }
+
+unfoldable pub sizes : List Size
+sizes =
+    size (four 0 1 1 1) 258 257
+    ∷ size (four 0 65 1 1) 260 258
+    ∷ size (four 0 4096 12 1) 262400 320
+    ∷ size (four 1 2 9 1) 768 257
+    ∷ size (four 1 2 10 1) 770 257
+    ∷ size (four 1 4096 27 1) 98560 320
+    ∷ size (four 2 8 2 2) 260 257
+    ∷ size (four 2 130 12 2) 8448 259
+    ∷ size (four 2 4096 12 64) 4352 320
+    ∷ size (four 0 4097 12 1) 1 1
+    ∷ size (four 1 4096 28 1) 1 1
+    ∷ size (four 2 9 2 2) 1 1
+    ∷ size (four 2 8 2 0) 1 1
+    ∷ size (four 3 8 2 2) 1 1
+    ∷ []

@@ -1,14 +1,17 @@
-// The six calls for callers in C and Rust. A geometry is passed as its four numbers, a slice as its pointer and its length in
-// elements. What comes back is one number: below 256 it is that of a refusal, which changed nothing; else it is 256 and the
-// value that stands at each function.
+// The six calls for callers in C and Rust, and the lengths that they ask for. A geometry is passed as its four numbers, a slice
+// as its pointer and its length in elements. What comes back is one number: below 256 it is that of a refusal, which changed
+// nothing; else it is 256 and the value that stands at each function.
 use calls::Answer;
+use checks::Checked;
 use geometry::Geometry;
 use places::Address;
 ghost use mathlib.Core.Path.{_≡_};
 ghost use mathlib.Core.List.{[]};
+ghost use Rattle.geometry.specs.Sizes.{matchWords};
+ghost use Rattle.geometry.specs.Stages.{indicatorWords};
 ghost use Rattle.reference.specs.Calls.{clear, write, erase, read, firstMatch, allMatch};
 ghost use Rattle.calls.specs.Answers.{answerFor, tables};
-ghost use Rattle.cam_abi.specs.Codes.{codeOf, four, Coded};
+ghost use Rattle.cam_abi.specs.Codes.{codeOf, sizeCode, four, Coded};
 
 // The geometry of the four numbers.
 fn four(kind: u32, depth: u32, pattern_width: u32, set_width: u32) -> Geometry
@@ -45,6 +48,35 @@ fn code(answer: Answer) -> u64
             entries_compared,
         } => 256 + 65535 + 65536 * words_read as u64 + 0x1_0000_0000 * entries_compared as u64,
         Answer::Matched { hits } => 256 + hits as u64,
+    }
+}
+
+// The value is the number of words of the indicators.
+#[no_mangle]
+pub extern "C" fn cam_indicator_words(
+    kind: u32,
+    depth: u32,
+    pattern_width: u32,
+    set_width: u32,
+) -> u64
+    ensures { λ r. ⌜ r ≡ sizeCode (four kind depth «pattern_width» «set_width») indicatorWords ⌝ }
+{
+    let checked = checks::geometry(four(kind, depth, pattern_width, set_width));
+    match checked {
+        Checked::Accepted(sizes) => 256 + sizes.indicator_words as u64,
+        Checked::Refused(why) => why.number() as u64,
+    }
+}
+
+// The value is the number of words of a match word.
+#[no_mangle]
+pub extern "C" fn cam_match_words(kind: u32, depth: u32, pattern_width: u32, set_width: u32) -> u64
+    ensures { λ r. ⌜ r ≡ sizeCode (four kind depth «pattern_width» «set_width») matchWords ⌝ }
+{
+    let checked = checks::geometry(four(kind, depth, pattern_width, set_width));
+    match checked {
+        Checked::Accepted(sizes) => 256 + sizes.match_words as u64,
+        Checked::Refused(why) => why.number() as u64,
     }
 }
 

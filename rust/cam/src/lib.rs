@@ -2,10 +2,14 @@
 //! the library, and the code that comes back is turned into a result. `raw` has the codes
 //! themselves.
 //!
-//! The caller lends both tables with every call, and to an all-match its match word. Any geometry,
-//! length and content may be passed; a call that is refused changes nothing.
+//! [`Memory`] has tables of its own, of the lengths that the library asks for. The calls of
+//! [`Geometry`] are lent both tables every time, and an all-match its match word: any geometry,
+//! length and content may be passed. A call that is refused changes nothing.
 
+mod memory;
 pub mod raw;
+
+pub use memory::{AllMatch, Memory};
 
 use std::error::Error;
 use std::fmt;
@@ -75,6 +79,16 @@ pub struct FirstMatch {
 }
 
 impl Geometry {
+    /// How many words the indicators have. The only refusal is [`Refusal::Geometry`].
+    pub fn indicator_words(self) -> Result<usize, Refusal> {
+        accepted(raw::indicator_words(self)).map(|words| words as usize)
+    }
+
+    /// How many words a match word has. The only refusal is [`Refusal::Geometry`].
+    pub fn match_words(self) -> Result<usize, Refusal> {
+        accepted(raw::match_words(self)).map(|words| words as usize)
+    }
+
     /// Empties every entry and zeroes every indicator word.
     pub fn clear(self, store: &mut [u32], indicators: &mut [u64]) -> Result<(), Refusal> {
         accepted(raw::clear(self, store, indicators)).map(|_| ())

@@ -1,9 +1,10 @@
-//! The six exported functions as safe functions over slices, each giving the code that the library
+//! The exported functions as safe functions over slices, each giving the code that the library
 //! gives.
 //!
-//! A code below 256 is the number of a refusal. Any other is 256 plus a value: 0 for a clear; for a
-//! write, an erase or a read the entry as the store has it; for a first-match the address (65,535
-//! for none) + 65,536 × words_read + 2^32 × entries_compared; for an all-match the number of hits.
+//! A code below 256 is the number of a refusal. Any other is 256 plus a value: a number of words; 0
+//! for a clear; for a write, an erase or a read the entry as the store has it; for a first-match
+//! the address (65,535 for none) + 65,536 × words_read + 2^32 × entries_compared; for an all-match
+//! the number of hits.
 //!
 //! Why these are safe: the library asks nothing of its caller but that each pointer and length are
 //! a Rust slice's. It is proved to stay inside the slices for every geometry, every length and
@@ -14,6 +15,13 @@ use crate::Geometry;
 /// The functions of libcam_abi.a. A slice is passed as its pointer and its length in elements.
 mod exported {
     extern "C" {
+        pub fn cam_indicator_words(
+            kind: u32,
+            depth: u32,
+            pattern_width: u32,
+            set_width: u32,
+        ) -> u64;
+        pub fn cam_match_words(kind: u32, depth: u32, pattern_width: u32, set_width: u32) -> u64;
         pub fn cam_clear(
             kind: u32,
             depth: u32,
@@ -92,6 +100,14 @@ macro_rules! call {
             exported::$name($g.kind, $g.depth, $g.pattern_width, $g.set_width $(, $argument)*)
         }
     };
+}
+
+pub fn indicator_words(g: Geometry) -> u64 {
+    call!(cam_indicator_words, g)
+}
+
+pub fn match_words(g: Geometry) -> u64 {
+    call!(cam_match_words, g)
 }
 
 pub fn clear(g: Geometry, store: &mut [u32], indicators: &mut [u64]) -> u64 {

@@ -19,6 +19,7 @@ mod random;
 mod reduce;
 mod script;
 mod shapes;
+mod sizes;
 mod subjects;
 mod tables;
 mod trial;
@@ -79,6 +80,7 @@ fn run_only(options: &Options, parts: &[Box<dyn Part>]) -> Counts {
 fn run_all(options: &Options, parts: &[Box<dyn Part>]) -> Counts {
     let mut counts = run_scripts(options, "cases of docs/MEMORY.md", cases::cases());
     counts.add(run_scripts(options, "outside vectors", vectors::vectors()));
+    counts.add(sizes::run(options));
     for part in parts {
         counts.add(part.run_all(options));
     }

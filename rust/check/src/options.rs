@@ -28,10 +28,10 @@ const LAST_LINES: &str = "
   --trace            print the name or number of each trial before it runs, to find one that crashes
   --help             print this
 
-Each case, vector, history, single call and job counts one, the listing that camrun prints too, and
-so does, for each random part, that it met all it is made for. A few trials may not, which is then a
-failure. A job that fails is cut down and put into a file, whose name is printed. With --jobs 0 the
-program camrun is not needed.
+Each case, vector, history, single call and job counts one, each of the two lengths and the listing
+that camrun prints too, and so does, for each random part, that it met all it is made for. A few
+trials may not, which is then a failure. A job that fails is cut down and put into a file, whose
+name is printed. With --jobs 0 the program camrun is not needed.
 The exit status is 0 when nothing failed. The last line is 'N passed, M failed'.";
 
 /// The text of `--help`, with the options of these parts.

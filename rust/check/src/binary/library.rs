@@ -1,9 +1,11 @@
-//! The six calls made through both layers of the wrapper crate.
+//! The six calls made through both layers of the wrapper crate, and on a memory that has its own
+//! tables.
 
 use crate::binary::answer::Answer;
 use crate::binary::call::Call;
 use crate::binary::Tables;
 use crate::geometry::Geometry;
+use crate::tables::MATCH_WORD;
 use cam::raw;
 
 pub fn raw(g: &Geometry, tables: &mut Tables, call: &mut Call) -> u64 {
@@ -38,10 +40,30 @@ pub fn typed(g: &Geometry, tables: &mut Tables, call: &mut Call) -> Answer {
                 })
         }
     };
-    result.unwrap_or_else(|refusal| Answer::Refused(refusal.number()))
+    result.unwrap_or_else(refused)
 }
 
-fn wrapped(g: &Geometry) -> cam::Geometry {
+/// The match word is the memory's, not the one that is lent to the call.
+pub fn owned(memory: &mut cam::Memory, call: &Call) -> Answer {
+    let result = match *call {
+        Call::Clear => memory.clear().map(|()| Answer::Cleared),
+        Call::Write { address, pattern } => memory.write(address, pattern).map(Answer::Entry),
+        Call::Erase { address } => memory.erase(address).map(Answer::Entry),
+        Call::Read { address } => memory.read(address).map(Answer::Entry),
+        Call::FirstMatch { key } => memory.first_match(key).map(first_answer),
+        Call::AllMatch { key, .. } => memory.all_match(key).map(|found| Answer::Matches {
+            matches: MATCH_WORD.table(&found.words),
+            hits: found.hits,
+        }),
+    };
+    result.unwrap_or_else(refused)
+}
+
+fn refused(refusal: cam::Refusal) -> Answer {
+    Answer::Refused(refusal.number())
+}
+
+pub fn wrapped(g: &Geometry) -> cam::Geometry {
     cam::Geometry {
         kind: g.kind,
         depth: g.depth,

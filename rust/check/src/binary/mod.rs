@@ -7,7 +7,7 @@ pub mod call;
 pub mod cases;
 pub mod generate;
 mod image;
-mod library;
+pub mod library;
 mod lines;
 mod required;
 mod steps;

@@ -1,0 +1,203 @@
+//! The lengths that the library gives for a geometry, against those of the second writing; and the
+//! wrapper's memory that has tables of these lengths, against the calls that are lent theirs.
+
+use crate::binary::call::Call;
+use crate::binary::library::{self, wrapped};
+use crate::binary::{Binary, Tables};
+use crate::family::{AnyAnswer, AnyCall, Family};
+use crate::generate::random_history;
+use crate::geometry::{geometry, Geometry};
+use crate::options::Options;
+use crate::parts::Counts;
+use crate::random::Random;
+use crate::tables::MATCH_WORD;
+use crate::trial::Trial;
+use cam::{raw, Refusal};
+
+/// How many histories the owned memories have, and what keeps their generator apart.
+const HISTORIES: u64 = 1000;
+const NUMBER: u64 = 4;
+
+/// After so many failures the rest are only counted.
+const SHOWN_FAILURES: u64 = 3;
+
+/// Numbers past the small ones, around where a row gets another word and where a rule ends.
+const KINDS: [u32; 1] = [u32::MAX];
+const DEPTHS: [u32; 11] = [
+    191,
+    192,
+    193,
+    1024,
+    1025,
+    4032,
+    4033,
+    4095,
+    4096,
+    4097,
+    u32::MAX,
+];
+const PATTERN_WIDTHS: [u32; 4] = [31, 32, 64, u32::MAX];
+const SET_WIDTHS: [u32; 4] = [96, 128, 4096, u32::MAX];
+
+/// Lengths that are wrong would make memories of any size: those are then not tried.
+pub fn run(options: &Options) -> Counts {
+    let mut counts = lengths();
+    match counts.failed {
+        0 => counts.add(owned(options)),
+        _ => println!("owned memories: not tried, as their lengths are wrong"),
+    }
+    counts
+}
+
+/// One function that gives a length, through both layers of the wrapper, and what is right.
+struct Length {
+    name: &'static str,
+    raw: fn(cam::Geometry) -> u64,
+    typed: fn(cam::Geometry) -> Result<usize, Refusal>,
+    right: fn(&Geometry) -> usize,
+}
+
+const LENGTHS: [Length; 2] = [
+    Length {
+        name: "cam_indicator_words",
+        raw: raw::indicator_words,
+        typed: cam::Geometry::indicator_words,
+        right: Geometry::indicator_words,
+    },
+    Length {
+        name: "cam_match_words",
+        raw: raw::match_words,
+        typed: cam::Geometry::match_words,
+        right: Geometry::match_words,
+    },
+];
+
+/// Each of the two functions counts one, whatever the number of geometries.
+fn lengths() -> Counts {
+    let geometries = geometries();
+    let mut counts = Counts::default();
+    for length in LENGTHS {
+        let wrong = geometries.iter().find_map(|g| length.judge(g).err());
+        counts.count(wrong.is_none());
+        if let Some(what) = wrong {
+            println!("FAILED, {}\n    {what}", length.name);
+        }
+    }
+    println!("lengths of {} geometries: {counts}", geometries.len());
+    counts
+}
+
+impl Length {
+    fn judge(&self, g: &Geometry) -> Result<(), String> {
+        let right = g.is_valid().then(|| (self.right)(g));
+        let code = right.map_or(1, |words| 256 + words as u64);
+        let given = (self.raw)(wrapped(g));
+        if given != code {
+            return Err(format!("{g} gave {given}; right is {code}"));
+        }
+        let typed = (self.typed)(wrapped(g));
+        match typed == right.ok_or(Refusal::Geometry) {
+            true => Ok(()),
+            false => Err(format!("{g}: the wrapper makes {typed:?} of {code}")),
+        }
+    }
+}
+
+/// Every mixture of small numbers and those above, most of which are no geometry.
+fn geometries() -> Vec<Geometry> {
+    let numbers = |most: u32, others: &[u32]| -> Vec<u32> {
+        (0..=most).chain(others.iter().copied()).collect()
+    };
+    let (kinds, depths) = (numbers(3, &KINDS), numbers(130, &DEPTHS));
+    let (patterns, sets) = (numbers(28, &PATTERN_WIDTHS), numbers(66, &SET_WIDTHS));
+    let mut geometries = Vec::new();
+    for &kind in &kinds {
+        for &depth in &depths {
+            for &pattern in &patterns {
+                geometries.extend(sets.iter().map(|&set| geometry(kind, depth, pattern, set)));
+            }
+        }
+    }
+    geometries
+}
+
+fn owned(options: &Options) -> Counts {
+    let mut counts = Counts::default();
+    for index in 0..HISTORIES {
+        if options.trace {
+            println!("owned memory {index}");
+        }
+        let trial = random_history(&mut Random::of_trial(options.seed, NUMBER, index));
+        let outcome = judge(&trial);
+        if let (Err(what), true) = (&outcome, counts.failed < SHOWN_FAILURES) {
+            println!("FAILED, owned memory {index}: {trial}\n    {what}");
+        }
+        counts.count(outcome.is_ok());
+    }
+    println!("owned memories: {counts} (seed {})", options.seed);
+    counts
+}
+
+/// A memory begins as the clear leaves lent tables, and each call gives and leaves the same on both.
+/// What is right the other parts say: here a wrong core and a right one do the same.
+fn judge(trial: &Trial<Binary>) -> Result<(), String> {
+    let g = &trial.geometry;
+    let mut tables = trial.before.clone();
+    if Binary::raw(g, &mut tables, &mut Call::Clear) != 256 {
+        return Ok(());
+    }
+    let memory = cam::Memory::new(wrapped(g));
+    let mut memory = memory.map_err(|why| format!("there is no such memory: {why}"))?;
+    same_tables(&memory, &tables).map_err(|what| format!("new: {what}"))?;
+    for call in &trial.calls {
+        let mut call = with_own_match_word(g, call);
+        let lent = Binary::raw(g, &mut tables, &mut call);
+        // The wrapper panics at a number that is no refusal's.
+        if matches!(lent, 0 | 7..=255) {
+            return Ok(());
+        }
+        let owned = library::owned(&mut memory, &call).code();
+        if owned != lent {
+            let (given, right) = (call.describe(owned), call.describe(lent));
+            return Err(format!("{call} gave: {given}; lent tables give: {right}"));
+        }
+        same_matches(&memory, &call).map_err(|what| format!("{call}: {what}"))?;
+        same_tables(&memory, &tables).map_err(|what| format!("after {call}: {what}"))?;
+    }
+    Ok(())
+}
+
+/// A memory lends a match word of the right length.
+fn with_own_match_word(g: &Geometry, call: &Call) -> Call {
+    match *call {
+        Call::AllMatch { key, .. } => Call::AllMatch {
+            key,
+            lent: MATCH_WORD.table(&vec![0; g.match_words()]),
+        },
+        _ => call.clone(),
+    }
+}
+
+/// Of an all-match, whose match word was left by the lent call: the words, and the addresses whose
+/// bits are 1.
+fn same_matches(memory: &cam::Memory, call: &Call) -> Result<(), String> {
+    let Call::AllMatch { key, lent } = call else {
+        return Ok(());
+    };
+    let Ok(found) = memory.all_match(*key) else {
+        return Ok(());
+    };
+    let holds = |&address: &u32| lent[address as usize / 64] >> (address % 64) & 1 == 1;
+    let addresses = (0..memory.geometry().depth).filter(holds);
+    match found.words == lent[..] && found.addresses().eq(addresses) {
+        true => Ok(()),
+        false => Err("the match word or its addresses are not the lent one's".to_string()),
+    }
+}
+
+fn same_tables(memory: &cam::Memory, lent: &Tables) -> Result<(), String> {
+    match (memory.store(), memory.indicators()) == (&lent.store[..], &lent.indicators[..]) {
+        true => Ok(()),
+        false => Err("the tables are not as the lent ones".to_string()),
+    }
+}

@@ -1,4 +1,4 @@
-/* A segmented memory of eight addresses in sets of two, from C: the commands of document 01's listing. The library says how long
+/* A segmented memory of eight addresses in sets of two, from C: the commands of examples/listing.txt. The library says how long
  * the tables are. */
 #include <inttypes.h>
 #include <stdio.h>

@@ -25,7 +25,7 @@
  *
  *     bit s % 64 of word row_words * r + s / 64
  *
- * The row of a pattern is its own number. Kind 1 cuts a pattern into stages (document 01's slices): stage k is its bits 9 * k to
+ * The row of a pattern is its own number. Kind 1 cuts a pattern into stages (or slices): stage k is its bits 9 * k to
  * 9 * k + 8, as far as it has them, and its row there is 512 * k + the value of these bits. So a pattern has one row, in kind 1 one
  * in each stage. From a clear on, a bit is 1 exactly where an address of its set holds a pattern that has its row. The bits past
  * the last set, which fill up the last word of each row, are padding: cam_clear makes them 0, no other call changes them, and no

@@ -52,6 +52,9 @@ fn main() -> ExitCode {
         println!("{}", help(&names));
         return ExitCode::SUCCESS;
     }
+    if let Some(task) = &options.tables {
+        return ended(jobs::tables::run(task, options.trace));
+    }
     if let Err(what) = parts.iter().try_for_each(|part| part.ready(&options)) {
         eprintln!("{what}");
         return ExitCode::from(2);
@@ -60,6 +63,10 @@ fn main() -> ExitCode {
         true => run_only(&options, &parts),
         false => run_all(&options, &parts),
     };
+    ended(counts)
+}
+
+fn ended(counts: Counts) -> ExitCode {
     println!("{counts}");
     match counts.failed {
         0 => ExitCode::SUCCESS,

@@ -1,5 +1,6 @@
 //! The command line.
 
+use crate::jobs::tables::Task;
 use std::collections::BTreeMap;
 use std::path::{Path, PathBuf};
 
@@ -25,6 +26,12 @@ check: runs the library and the program camrun beside a second writing of docs/M
 
 const LAST_LINES: &str = "
   --camrun PATH      the program camrun (default target/bin/camrun, from the root of the repository)
+  --tables FOLDER    compare the tables beside each job of a folder, and those that the library
+                     leaves after the same calls, with the right ones, and do nothing else; each job
+                     counts one, and so does a table that no job leaves
+  --write-tables FOLDER
+                     write the right ones: NAME.store and NAME.indicators beside each NAME.job that
+                     is not stopped whole
   --trace            print the name or number of each trial before it runs, to find one that crashes
   --help             print this
 
@@ -57,6 +64,7 @@ pub struct Options {
     /// Whether one trial alone is asked for.
     pub only_one: bool,
     pub camrun: PathBuf,
+    pub tables: Option<Task>,
     pub trace: bool,
     pub help: bool,
 }
@@ -71,6 +79,7 @@ impl Options {
             of_parts: BTreeMap::new(),
             only_one: false,
             camrun: PathBuf::from("target/bin/camrun"),
+            tables: None,
             trace: false,
             help: false,
         };
@@ -84,6 +93,8 @@ impl Options {
                 "--seed" => options.seed = number()?,
                 // A name alone would be looked for on the path.
                 "--camrun" => options.camrun = Path::new(".").join(value()?),
+                "--tables" => options.tables = Some(Task::Compare(value()?.into())),
+                "--write-tables" => options.tables = Some(Task::Write(value()?.into())),
                 "--trace" => options.trace = true,
                 "--help" => options.help = true,
                 _ => {

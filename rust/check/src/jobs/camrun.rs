@@ -2,6 +2,7 @@
 
 use crate::coverage::Tally;
 use crate::geometry::{geometry, SEGMENTED};
+use crate::jobs::difference::first_difference;
 use crate::jobs::job::{Command, Job};
 use crate::jobs::report::report;
 use crate::options::Options;
@@ -125,25 +126,12 @@ fn write_pieces(mut input: ChildStdin, job: &Job) -> Written<()> {
     Ok(())
 }
 
-/// The first line that differs, its newline included.
+/// The first line that differs.
 fn compare(job: &Job, printed: &[u8], right: &str) -> Result<(), String> {
-    let lines = |text| <[u8]>::split_inclusive(text, |&byte| byte == b'\n');
-    let printed: Vec<&[u8]> = lines(printed).collect();
-    let right: Vec<&[u8]> = lines(right.as_bytes()).collect();
-    let count = printed.len().max(right.len());
-    let Some(i) = (0..count).find(|&i| printed.get(i) != right.get(i)) else {
+    let Some((i, differs)) = first_difference(printed, right.as_bytes()) else {
         return Ok(());
-    };
-    let text = |line: Option<&&[u8]>| match line {
-        Some(line) => format!("{:?}", String::from_utf8_lossy(line)),
-        None => "missing".to_string(),
     };
     let command = i.checked_sub(1).and_then(|number| job.notation(number));
     let command = command.map_or(String::new(), |command| format!(" ({command})"));
-    Err(format!(
-        "line {}{command} is {}; right is {}",
-        i + 1,
-        text(printed.get(i)),
-        text(right.get(i))
-    ))
+    Err(format!("line {}{command} {differs}", i + 1))
 }

@@ -3,10 +3,12 @@
 
 mod camrun;
 mod command_subjects;
+mod difference;
 mod file_subjects;
 mod generate;
 mod job;
 mod report;
+pub mod tables;
 
 use crate::coverage::Required;
 use crate::options::{Names, Options};

@@ -20,6 +20,10 @@ static void mark(SHAPE, uint64_t *indicators, uint32_t address, uint32_t pattern
 #define mark(...)
 #endif
 
+/* A job makes no use of the lengths. */
+uint64_t cam_indicator_words(SHAPE) { return (void)kind, (void)depth, (void)width, (void)set, CAM_BAD_GEOMETRY; }
+uint64_t cam_match_words(SHAPE) { return (void)kind, (void)depth, (void)width, (void)set, CAM_BAD_GEOMETRY; }
+
 uint64_t cam_clear(SHAPE, TABLES) {
     UNUSED;
     for (size_t a = 0; a < entries; a++) {

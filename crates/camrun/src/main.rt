@@ -13,7 +13,7 @@ fn report(file: &[u8]) -> bool {
     // As large as the longest report could be.
     let mut out = [0u8; 391215];
     let printed = job::run(file, &mut store, &mut indicators, &mut matches, &mut out);
-    if !streams::write_whole(STDOUT_FILENO, &out[..printed]) {
+    if streams::write_whole(STDOUT_FILENO, &out[..printed]) < printed {
         return false;
     }
     // A file system may tell only now that it had no room.

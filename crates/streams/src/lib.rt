@@ -89,8 +89,10 @@ pub fn read_whole(fd: i32, buf: &mut [u8]) -> Input
     Input::Whole(filled)
 }
 
-// Writes all of `text`, and answers whether that was done: if not, some of it may have been written.
-pub fn write_whole(fd: i32, text: &[u8]) -> bool {
+// Writes `text`, and answers how many of its bytes: all, or those before a failure.
+pub fn write_whole(fd: i32, text: &[u8]) -> usize
+    ensures { λ r. ⌜ r ≤ length (now (text .entry)) ⌝ }
+{
     let mut written = 0;
     let mut patience = PATIENCE;
     while written < text.len() {
@@ -98,13 +100,13 @@ pub fn write_whole(fd: i32, text: &[u8]) -> bool {
             Told::Moved(n) => written += n,
             Told::Again => {
                 if patience == 0 {
-                    return false;
+                    return written;
                 }
                 patience -= 1;
                 libc::sched_yield();
             }
-            Told::Ended | Told::Failed => return false,
+            Told::Ended | Told::Failed => return written,
         }
     }
-    true
+    written
 }

@@ -1,4 +1,4 @@
--- `streams::write_whole` is safe and ends: each turn leaves fewer bytes or less patience.
+-- `streams::write_whole` meets its contract, and ends: each turn leaves fewer bytes or less patience.
 use Prim.Native.Nat.{ℕ, _+_, _-_, _≤_, _<_}
 use native.Mathlib.Omega.{arith}
 use lib.ListN.{length}
@@ -31,4 +31,4 @@ pub write-whole-spec : {M : Type 1} → statement M
 write-whole-spec =
     tie.close
     (tie.spec Inv-loop μ-loop (λ c. search needs) (λ c κs. omega arith) (λ c. search needs) add-written less-left still-within
-    (λ c. search needs) (λ c. tt) (λ c. omega arith) (λ c κs. search needs) (λ c. omega arith) (λ c. omega arith) (λ c. tt) (λ c. tt))
+    (λ c. search needs) (λ c. omega arith) (λ c. omega arith) (λ c κs. search needs) (λ c. omega arith) (λ c. omega arith) (λ c. omega arith) (λ c. omega arith))

@@ -28,6 +28,8 @@ pub trait AnyCall: Clone + Display {
     fn writes_tables(&self) -> bool;
     /// What a code says as the answer to this call.
     fn describe(&self, code: u64) -> String;
+    /// The call as a command in a text for `tools/camjob`.
+    fn job_line(&self) -> String;
 }
 
 /// The right answer to a call.

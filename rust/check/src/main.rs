@@ -12,22 +12,29 @@ mod geometry;
 mod jobs;
 mod lent;
 mod memory;
+mod note;
 mod options;
 mod parts;
 mod pool;
 mod random;
 mod reduce;
 mod script;
+mod scripts;
 mod shapes;
 mod sizes;
 mod subjects;
+mod system;
 mod tables;
+mod texts;
 mod trial;
+mod watch;
 
 use binary::{cases, vectors, Binary};
 use options::{help, Names, Options};
-use parts::{histories, run_scripts, single_calls, Counts, Part};
+use parts::{histories, single_calls, Counts, Part};
+use scripts::Scripts;
 use std::process::ExitCode;
+use watch::{Death, Limits};
 
 /// The parts of random trials, in the order in which they run.
 fn random_parts() -> Vec<Box<dyn Part>> {
@@ -38,7 +45,23 @@ fn random_parts() -> Vec<Box<dyn Part>> {
     ]
 }
 
-fn main() -> ExitCode {
+/// The written-out examples, which run before them.
+fn written_out() -> [Scripts<Binary>; 2] {
+    let cases = Scripts {
+        name: "cases of docs/MEMORY.md",
+        number: 11,
+        scripts: cases::cases(),
+    };
+    let vectors = Scripts {
+        name: "outside vectors",
+        number: 12,
+        scripts: vectors::vectors(),
+    };
+    [cases, vectors]
+}
+
+/// Public, so that `tools/checkcore` can take the program for a library and link each core with it.
+pub fn main() -> ExitCode {
     let parts = random_parts();
     let names: Vec<Names> = parts.iter().map(|part| part.names()).collect();
     let options = match Options::parse(&names, std::env::args().skip(1)) {
@@ -59,9 +82,13 @@ fn main() -> ExitCode {
         eprintln!("{what}");
         return ExitCode::from(2);
     }
-    let counts = match options.only_one {
+    let run = || match options.only_one {
         true => run_only(&options, &parts),
         false => run_all(&options, &parts),
+    };
+    let counts = match options.limits() {
+        Some(limits) => run_watched(&options, &parts, limits, run),
+        None => run(),
     };
     ended(counts)
 }
@@ -85,11 +112,45 @@ fn run_only(options: &Options, parts: &[Box<dyn Part>]) -> Counts {
 }
 
 fn run_all(options: &Options, parts: &[Box<dyn Part>]) -> Counts {
-    let mut counts = run_scripts(options, "cases of docs/MEMORY.md", cases::cases());
-    counts.add(run_scripts(options, "outside vectors", vectors::vectors()));
-    counts.add(sizes::run(options));
+    let mut counts = Counts::default();
+    for scripts in written_out() {
+        counts.add(scripts.run(options));
+    }
     for part in parts {
         counts.add(part.run_all(options));
     }
+    counts.add(sizes::run(options));
     counts
+}
+
+/// What was counted by a run in a process of its own. A core that dies ends it, and counts as one
+/// failure more.
+fn run_watched(
+    options: &Options,
+    parts: &[Box<dyn Part>],
+    limits: Limits,
+    run: impl FnOnce() -> Counts,
+) -> Counts {
+    let outcome = watch::run(limits, || {
+        run();
+    });
+    let mut counts = Counts::so_far();
+    if let Err(death) = outcome {
+        show_death(options, parts, &death);
+        println!("The trials after this one were not run.");
+        counts.count(false);
+    }
+    counts
+}
+
+fn show_death(options: &Options, parts: &[Box<dyn Part>], death: &Death) {
+    let number = death.place.part;
+    let scripts = written_out();
+    if let Some(scripts) = scripts.iter().find(|scripts| scripts.number == number) {
+        scripts.show_death(options, death);
+    } else if let Some(part) = parts.iter().find(|part| part.names().number == number) {
+        part.show_death(options, death);
+    } else {
+        sizes::show_death(options, death);
+    }
 }

@@ -4,6 +4,7 @@
 use crate::family::{AnyAnswer, AnyCall, Family};
 use crate::geometry::Geometry;
 use crate::lent::{AnyTables, Lent};
+use crate::note::note;
 
 /// Which layer of the wrapper crate makes the calls.
 #[derive(Clone, Copy)]
@@ -47,10 +48,12 @@ impl<F: Family> Memory<F> {
     fn make(&mut self, call: &F::Call) -> Result<Made<F::Call>, String> {
         let before = (!call.writes_tables()).then(|| self.tables.clone());
         let (g, mut call) = (&self.geometry, call.clone());
+        note().enter_call();
         let code = match self.layer {
             Layer::Raw => F::raw(g, &mut self.tables, &mut call),
             Layer::Typed => F::typed(g, &mut self.tables, &mut call).code(),
         };
+        note().leave_call();
         let of_tables = self.tables.guards_hold();
         let guards = of_tables.and(call.lent().map_or(Ok(()), Lent::guards_hold));
         guards.map_err(|what| format!("{call}: {what}"))?;

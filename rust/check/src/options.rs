@@ -1,8 +1,10 @@
 //! The command line.
 
 use crate::jobs::tables::Task;
+use crate::watch::Limits;
 use std::collections::BTreeMap;
 use std::path::{Path, PathBuf};
+use std::time::Duration;
 
 /// How a part of random trials is called, and how many it has.
 #[derive(Clone, Copy)]
@@ -15,6 +17,8 @@ pub struct Names {
     pub only: &'static str,
     /// The number of trials where none is asked for.
     pub default: u64,
+    /// The same in a quick run.
+    pub quick: u64,
     /// Keeps the generators of two parts apart.
     pub number: u64,
 }
@@ -33,6 +37,11 @@ const LAST_LINES: &str = "
                      write the right ones: NAME.store and NAME.indicators beside each NAME.job that
                      is not stopped whole
   --trace            print the name or number of each trial before it runs, to find one that crashes
+  --quick            a tenth of the histories and single calls, and no job, where no number is given
+  --brief            do not print how often each thing was met
+  --texts FOLDER     write the failing histories that are printed as texts for tools/camjob
+  --watch N          run the core in a process of its own; a call of over N seconds is a failure
+  --limit N          with --watch, stop a run of over N seconds (default 600)
   --help             print this
 
 Each case, vector, history, single call and job counts one, each of the two lengths and the listing
@@ -66,7 +75,34 @@ pub struct Options {
     pub camrun: PathBuf,
     pub tables: Option<Task>,
     pub trace: bool,
+    pub quick: bool,
+    pub brief: bool,
+    /// Where failing histories are written.
+    pub texts: Option<PathBuf>,
+    /// How long a call may take of a core in a process of its own.
+    watch: Option<Duration>,
+    /// How long it may take in all.
+    limit: Duration,
     pub help: bool,
+}
+
+impl Default for Options {
+    fn default() -> Options {
+        Options {
+            seed: 1,
+            of_parts: BTreeMap::new(),
+            only_one: false,
+            camrun: PathBuf::from("target/bin/camrun"),
+            tables: None,
+            trace: false,
+            quick: false,
+            brief: false,
+            texts: None,
+            watch: None,
+            limit: Duration::from_secs(600),
+            help: false,
+        }
+    }
 }
 
 impl Options {
@@ -74,15 +110,7 @@ impl Options {
         parts: &[Names],
         mut words: impl Iterator<Item = String>,
     ) -> Result<Options, String> {
-        let mut options = Options {
-            seed: 1,
-            of_parts: BTreeMap::new(),
-            only_one: false,
-            camrun: PathBuf::from("target/bin/camrun"),
-            tables: None,
-            trace: false,
-            help: false,
-        };
+        let mut options = Options::default();
         while let Some(word) = words.next() {
             let mut value = || words.next().ok_or(format!("{word} needs a value"));
             let mut number = || {
@@ -96,6 +124,11 @@ impl Options {
                 "--tables" => options.tables = Some(Task::Compare(value()?.into())),
                 "--write-tables" => options.tables = Some(Task::Write(value()?.into())),
                 "--trace" => options.trace = true,
+                "--quick" => options.quick = true,
+                "--brief" => options.brief = true,
+                "--texts" => options.texts = Some(PathBuf::from(value()?)),
+                "--watch" => options.watch = Some(Duration::from_secs(number()?)),
+                "--limit" => options.limit = Duration::from_secs(number()?),
                 "--help" => options.help = true,
                 _ => {
                     let option = of_a_part(parts, &word).ok_or(format!("{word} is no option"))?;
@@ -111,7 +144,18 @@ impl Options {
     /// How many trials a part has.
     pub fn trials(&self, names: &Names) -> u64 {
         let asked = self.of_parts.get(names.count);
-        asked.copied().unwrap_or(names.default)
+        let otherwise = if self.quick {
+            names.quick
+        } else {
+            names.default
+        };
+        asked.copied().unwrap_or(otherwise)
+    }
+
+    /// The limits of a core, where it is to run in a process of its own.
+    pub fn limits(&self) -> Option<Limits> {
+        let whole = self.limit;
+        self.watch.map(|call| Limits { call, whole })
     }
 
     /// The one trial of a part that is asked for.

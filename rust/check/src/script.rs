@@ -1,9 +1,11 @@
 //! Written-out examples: calls with the answers they must get, and looks at the tables between
 //! them.
 
-use crate::family::Family;
+use crate::family::{AnyAnswer, Family, Histories};
 use crate::geometry::Geometry;
 use crate::memory::{Layer, Memory};
+use crate::note::note;
+use crate::trial::Trial;
 
 pub struct Script<F: Family> {
     pub name: &'static str,
@@ -36,6 +38,7 @@ impl<F: Family> Script<F> {
                 tables: self.before.clone(),
                 layer,
             };
+            note().begin_calls();
             for line in &self.lines {
                 match line {
                     Line::Call(call, right) => memory.call(call, right)?,
@@ -44,5 +47,34 @@ impl<F: Family> Script<F> {
             }
         }
         Ok(())
+    }
+}
+
+impl<F: Histories> Script<F> {
+    /// The calls alone, where their answers are those of a history.
+    pub fn history(&self) -> Option<Trial<F>> {
+        let trial = Trial::<F> {
+            geometry: self.geometry,
+            before: self.before.clone(),
+            calls: self.calls().map(|(call, _)| call.clone()).collect(),
+        };
+        let mut array = trial.first_array()?;
+        let right = |(call, answer): (&F::Call, &F::Answer)| {
+            F::answer(&mut array, call).code() == answer.code()
+        };
+        self.calls().all(right).then_some(trial)
+    }
+
+    /// A call of the script, by its number from 1.
+    pub fn call_text(&self, number: u64) -> Option<String> {
+        let place = (number as usize).checked_sub(1)?;
+        self.calls().nth(place).map(|(call, _)| call.to_string())
+    }
+
+    fn calls(&self) -> impl Iterator<Item = (&F::Call, &F::Answer)> {
+        self.lines.iter().filter_map(|line| match line {
+            Line::Call(call, answer) => Some((call, answer)),
+            Line::Look(_) => None,
+        })
     }
 }

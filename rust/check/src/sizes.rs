@@ -7,11 +7,13 @@ use crate::binary::{Binary, Tables};
 use crate::family::{AnyAnswer, AnyCall, Family};
 use crate::generate::random_history;
 use crate::geometry::{geometry, Geometry};
+use crate::note::note;
 use crate::options::Options;
 use crate::parts::Counts;
 use crate::random::Random;
 use crate::tables::MATCH_WORD;
 use crate::trial::Trial;
+use crate::watch::Death;
 use cam::{raw, Refusal};
 
 /// How many histories the owned memories have, and what keeps their generator apart.
@@ -127,7 +129,8 @@ fn owned(options: &Options) -> Counts {
         if options.trace {
             println!("owned memory {index}");
         }
-        let trial = random_history(&mut Random::of_trial(options.seed, NUMBER, index));
+        let trial = trial(options, index);
+        note().begin_trial(NUMBER, index);
         let outcome = judge(&trial);
         if let (Err(what), true) = (&outcome, counts.failed < SHOWN_FAILURES) {
             println!("FAILED, owned memory {index}: {trial}\n    {what}");
@@ -136,6 +139,20 @@ fn owned(options: &Options) -> Counts {
     }
     println!("owned memories: {counts} (seed {})", options.seed);
     counts
+}
+
+fn trial(options: &Options, index: u64) -> Trial<Binary> {
+    random_history(&mut Random::of_trial(options.seed, NUMBER, index))
+}
+
+/// Prints where the core died, if not in a part that says it itself.
+pub fn show_death(options: &Options, death: &Death) {
+    let index = death.place.index;
+    match death.place.part {
+        NUMBER => println!("FAILED, owned memory {index}: {}", trial(options, index)),
+        _ => println!("FAILED, a length"),
+    }
+    println!("    {}", death.text(None));
 }
 
 /// A memory begins as the clear leaves lent tables, and each call gives and leaves the same on both.

@@ -6,6 +6,7 @@ use crate::family::{AnyAnswer, AnyCall, Family, Histories};
 use crate::geometry::Geometry;
 use crate::lent::{AnyTables, Lent};
 use crate::memory::{Layer, Memory};
+use crate::note::note;
 use std::fmt;
 
 #[derive(Clone)]
@@ -22,7 +23,7 @@ impl<F: Histories> Trial<F> {
         self.first_array().is_some()
     }
 
-    fn first_array(&self) -> Option<F::Array> {
+    pub fn first_array(&self) -> Option<F::Array> {
         F::begin(&self.geometry, &self.before, self.calls.first()?)
     }
 
@@ -39,9 +40,11 @@ impl<F: Histories> Trial<F> {
             answers.push(right);
         }
         let mut memory = self.lend();
+        note().begin_calls();
         for (call, right) in self.calls.iter().zip(&answers) {
             memory.call(call, right)?;
         }
+        note().begin_calls();
         memory
             .compare_tables(&F::tables_of(&array))
             .map_err(|what| format!("at the end {what}"))
@@ -82,10 +85,17 @@ impl<F: Family> Trial<F> {
         let met = F::met_by_step(&self.geometry, &self.before, call, &right);
         tally.count(&self.geometry, call.name(), right.label(), met);
         let mut memory = self.lend();
+        note().begin_calls();
         memory.call(call, &right)?;
         memory
             .compare_tables(&tables)
             .map_err(|what| format!("after {call} {what}"))
+    }
+
+    /// A call of the trial in its notation, by its number from 1.
+    pub fn call_text(&self, number: u64) -> Option<String> {
+        let call = self.calls.get((number as usize).checked_sub(1)?)?;
+        Some(self.notation(call))
     }
 
     fn fits(&self, table: &dyn Lent) -> bool {
@@ -93,7 +103,7 @@ impl<F: Family> Trial<F> {
     }
 
     /// The call, with the length of a match word that does not fit.
-    fn notation(&self, call: &F::Call) -> String {
+    pub fn notation(&self, call: &F::Call) -> String {
         match call.lent() {
             Some(lent) if !self.fits(lent) => {
                 format!("{call} ({} of length {})", lent.name(), lent.length())
@@ -104,7 +114,7 @@ impl<F: Family> Trial<F> {
 
     /// What the tables hold before, where it is not a cleared memory's, and lengths that do not
     /// fit.
-    fn tables_before(&self) -> Vec<String> {
+    pub fn tables_before(&self) -> Vec<String> {
         let tables = self.before.all();
         let wrong = tables.iter().filter(|table| !self.fits(**table));
         let lengths = wrong.map(|table| table.length_text());

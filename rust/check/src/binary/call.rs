@@ -78,6 +78,17 @@ impl AnyCall for Call {
     fn describe(&self, code: u64) -> String {
         describe(self, code)
     }
+
+    fn job_line(&self) -> String {
+        match self {
+            Call::Clear => "clear".to_string(),
+            Call::Write { address, pattern } => format!("write {address} {pattern}"),
+            Call::Erase { address } => format!("erase {address}"),
+            Call::Read { address } => format!("read {address}"),
+            Call::FirstMatch { key } => format!("first {key}"),
+            Call::AllMatch { key, .. } => format!("all {key}"),
+        }
+    }
 }
 
 impl fmt::Display for Call {

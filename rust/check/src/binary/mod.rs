@@ -58,6 +58,7 @@ impl Family for Binary {
         count: "--calls",
         only: "--only-call",
         default: 200_000,
+        quick: 20_000,
         number: 2,
     };
     const OF_SINGLE_CALLS: Required = required::OF_SINGLE_CALLS;
@@ -104,6 +105,7 @@ impl Histories for Binary {
         count: "--histories",
         only: "--only-history",
         default: 100_000,
+        quick: 10_000,
         number: 1,
     };
     const OF_HISTORIES: Required = required::OF_HISTORIES;

@@ -11,10 +11,12 @@ mod report;
 pub mod tables;
 
 use crate::coverage::Required;
+use crate::geometry::Geometry;
 use crate::options::{Names, Options};
 use crate::parts::{Counts, Part, RandomPart};
 use crate::subjects::BROKEN_RULES;
-use job::Job;
+use crate::watch::Death;
+use job::{Header, Job, HEADER};
 
 const NAMES: Names = Names {
     trials: "random jobs",
@@ -22,6 +24,7 @@ const NAMES: Names = Names {
     count: "--jobs",
     only: "--only-job",
     default: 3000,
+    quick: 0,
     number: 3,
 };
 
@@ -61,6 +64,8 @@ pub fn part() -> Box<dyn Part> {
         judge: camrun::judge,
         cut: camrun::cut,
         text: camrun::keep,
+        call: |_, _| None,
+        job: |_, _, _| None,
         required: REQUIRED,
     }))
 }
@@ -94,6 +99,20 @@ impl Part for Jobs {
     fn run_one(&self, options: &Options, index: u64) -> Counts {
         self.0.run_one(options, index)
     }
+
+    fn show_death(&self, options: &Options, death: &Death) {
+        self.0.show_death(options, death);
+    }
+}
+
+/// The number that stops a job of this geometry and so many commands, if one does.
+pub fn stop(geometry: &Geometry, commands: u32) -> Option<u32> {
+    let header = Header {
+        geometry: *geometry,
+        commands,
+        offset: HEADER as u32,
+    };
+    header.stop(header.end() as usize)
 }
 
 fn run_listing(options: &Options) -> Counts {

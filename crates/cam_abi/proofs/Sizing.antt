@@ -9,27 +9,20 @@ use Rattle.geometry.proofs.Bounds.{words-few, indicators-few}
 use Rattle.sizes.specs.declared.Sizes.{Sizes}
 use Rattle.checks.specs.declared.Refusal.{Refusal}
 use Rattle.checks.specs.declared.Refusal.the-variants.{BadGeometry}
-use Rattle.checks.specs.declared.Checked.{Checked}
-use Rattle.checks.specs.declared.Checked.the-variants.{Accepted, Refused}
+use Rattle.checks.specs.declared.Checked.the-variants.{Refused}
 use Rattle.checks.specs.Checks.{numberOf, checked}
 use Rattle.checks.specs.Passed.{Sized}
-use Rattle.checks.proofs.Acceptance.{checked-sized, checked-refused}
+use Rattle.checks.proofs.Acceptance.{checked-refused}
 use Rattle.cam_abi.specs.Codes.{sizeCode}
 
--- The code checked the geometry h, which is that of the contract.
-module _ {g h : Geometry} {x : Checked} (same : h ≡ g) (found : x ≡ checked h) where
-  pub sizes-found : {z : Sizes} → x ≡ Accepted z → Sized g z
-  sizes-found {z} is = checked-sized g z (ap checked (sym same) ∙ sym found ∙ is)
+pub size-refused : (g : Geometry) {why : Refusal} {n : ℕ} (words : Geometry → ℕ) → checked g ≡ Refused why → n ≡ numberOf why → n ≡ sizeCode g words
+unfolding sizeCode checked
+size-refused g {why} words is number =
+    let bad = checked-refused g why is in
+    let which : BadGeometry ≡ why = cc in
+    rw bad (number ∙ ap numberOf (sym which))
 
-  pub size-refused : {why : Refusal} {n : ℕ} (words : Geometry → ℕ) → x ≡ Refused why → n ≡ numberOf why → n ≡ sizeCode g words
-  unfolding sizeCode checked
-  size-refused {why} words is number =
-      let e = ap checked (sym same) ∙ sym found ∙ is in
-      let bad = checked-refused g why e in
-      let which : BadGeometry ≡ why = cc in
-      rw bad (number ∙ ap numberOf (sym which))
-
--- there is room for 256 more, whichever length it is
+-- There is room for 256 more, whichever length it is.
 pub lengths-few : {g : Geometry} {z : Sizes} → Sized g z → (z .«indicator_words» < 2 ^ 35) × (z .«match_words» < 2 ^ 35) × (z .«row_words» < 2 ^ 35)
 unfolding matchWords
 lengths-few {g} s =

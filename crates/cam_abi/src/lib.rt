@@ -51,6 +51,30 @@ fn code(answer: Answer) -> u64
     }
 }
 
+// The number for each length that a geometry asks for.
+struct Lengths {
+    indicators: u64,
+    matches: u64,
+}
+
+fn lengths_of(g: Geometry) -> Lengths
+    ensures { λ r. ⌜ (r .indicators ≡ sizeCode g indicatorWords) × (r .matches ≡ sizeCode g matchWords) ⌝ }
+{
+    match checks::geometry(g) {
+        Checked::Accepted(sizes) => Lengths {
+            indicators: 256 + sizes.indicator_words as u64,
+            matches: 256 + sizes.match_words as u64,
+        },
+        Checked::Refused(why) => {
+            let number = why.number() as u64;
+            Lengths {
+                indicators: number,
+                matches: number,
+            }
+        }
+    }
+}
+
 // The value is the number of words of the indicators.
 #[no_mangle]
 pub extern "C" fn cam_indicator_words(
@@ -61,11 +85,7 @@ pub extern "C" fn cam_indicator_words(
 ) -> u64
     ensures { λ r. ⌜ r ≡ sizeCode (four kind depth «pattern_width» «set_width») indicatorWords ⌝ }
 {
-    let checked = checks::geometry(four(kind, depth, pattern_width, set_width));
-    match checked {
-        Checked::Accepted(sizes) => 256 + sizes.indicator_words as u64,
-        Checked::Refused(why) => why.number() as u64,
-    }
+    lengths_of(four(kind, depth, pattern_width, set_width)).indicators
 }
 
 // The value is the number of words of a match word.
@@ -73,11 +93,7 @@ pub extern "C" fn cam_indicator_words(
 pub extern "C" fn cam_match_words(kind: u32, depth: u32, pattern_width: u32, set_width: u32) -> u64
     ensures { λ r. ⌜ r ≡ sizeCode (four kind depth «pattern_width» «set_width») matchWords ⌝ }
 {
-    let checked = checks::geometry(four(kind, depth, pattern_width, set_width));
-    match checked {
-        Checked::Accepted(sizes) => 256 + sizes.match_words as u64,
-        Checked::Refused(why) => why.number() as u64,
-    }
+    lengths_of(four(kind, depth, pattern_width, set_width)).matches
 }
 
 // Empties every address. The value is 0.

@@ -1,4 +1,4 @@
-/* The search memory in libcam_abi.a (`rt staticlib cam_abi`): its six calls, and the lengths of what is lent to them.
+/* The search memory in libcam_abi.a (`rt staticlib cam_abi`): its six calls, and two functions that give the lengths of what is lent.
  *
  * GEOMETRY. Four numbers: the kind, 0 for transposed, 1 for cascaded and 2 for segmented; the depth, 1 to 4096; the pattern width,
  * 1 to 12 bits, in kind 1 up to 27; and the set width, which is 1, but in kind 2 any divisor of the depth up to 64.

@@ -43,9 +43,17 @@ fn place_in_matrix(g: &Geometry, m: usize) -> String {
         return String::new();
     }
     let (row, j) = (m / g.row_words(), m % g.row_words());
+    let padding = match g.sets() {
+        sets if 64 * (j + 1) > sets => format!(", bits from {} on are padding", sets - 64 * j),
+        _ => String::new(),
+    };
     match g.kind {
-        CASCADED => format!(" (stage {}, row {}, word {j})", row / 512, row % 512),
-        _ => format!(" (row {row}, word {j})"),
+        CASCADED => format!(
+            " (stage {}, value {}, word {j}{padding})",
+            row / 512,
+            row % 512
+        ),
+        _ => format!(" (row {row}, word {j}{padding})"),
     }
 }
 

@@ -51,7 +51,7 @@ enum cam_refusal {
     CAM_BAD_PATTERN = 4,  /* the pattern has more bits than the pattern width */
     CAM_BAD_ENTRY = 5,    /* write, erase, read: the store has at the address neither CAM_EMPTY nor a pattern */
     CAM_FALSE_SET = 6     /* kind 2: a set's bit is 1 in the pattern's row, and no address of the set holds the pattern; first-match
-                           * looks at the first such bit alone, all-match at every one */
+                           * tests the first bit that is 1 alone, all-match every one */
 };
 
 /* The store's number for an empty address. */

@@ -64,7 +64,7 @@ pub fn is_sound(word: u32, patterns: u32) -> bool
     word == 0xffff_ffff || word < patterns
 }
 
-// What a word holds. One that is neither empty nor a pattern holds nothing (rule 6.4).
+// What a word holds. One that is neither empty nor a pattern holds nothing (rule 6.1).
 pub fn entry_of(word: u32, patterns: u32) -> Entry
     ensures { λ r. ⌜ entryFor r ≡ cond (ltb word patterns) (pattern word) empty ⌝ }
 {

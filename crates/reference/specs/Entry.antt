@@ -19,7 +19,7 @@ unfoldable pub wordOf : Entry → ℕ
 wordOf empty = emptyWord
 wordOf (pattern p) = p
 
--- What a word of the store holds. One that is neither empty nor a pattern holds nothing (rule 6.4).
+-- What a word of the store holds. One that is neither empty nor a pattern holds nothing (rule 6.1).
 unfoldable pub entryOf : Geometry → ℕ → Entry
 entryOf g w = cond (ltb w (patterns g)) (pattern w) empty
 

@@ -70,7 +70,7 @@ pub data AllOnAny (g : Geometry) (t : Tables) (key : ℕ) (answer : Answer) : Ty
 -- ---- demand 2, where the indicators mirror the store
 
 -- Tables of the right lengths whose indicators mirror the store: every bit that belongs to a set is as the store's entries
--- would have it. Padding bits are free, and so are entries that are no pattern: they cover nothing (rule 6.4).
+-- would have it. Padding bits are free, and so are words that are no pattern: they cover nothing (rules 6.1 and 6.4).
 pub record Mirrors (g : Geometry) (t : Tables) : Type 0 where
   pub entries : length (t .store) ≡ g .depth
   pub words : length (t .indicators) ≡ indicatorWords g
@@ -82,8 +82,8 @@ pub record DifferInPadding (g : Geometry) (ind others : List ℕ) : Type 0 where
   pub words : length others ≡ length ind
   pub bits : (m b : ℕ) → m < indicatorWords g → b < 64 → 64 * (m % rowWords g) + b < sets g → bit (getD others m 0) b ≡ bit (getD ind m 0) b
 
--- A first-match answers with the smallest address that has the key, or with none where no address has it; w and c are the
--- formulas of rule 5.7.
+-- A first-match answers with the smallest address that has the key, or with none where no address has it (rule 8.11); w and c
+-- are the formulas of rule 5.7.
 pub data FirstIs (g : Geometry) (t : Tables) (key : ℕ) (answer : Answer) : Type 0 where
   lowest : (a : ℕ) → First (g .depth) (stores t key) a
       → answer ≡ at a (a / (64 * g .«set_width») + 1) (cond (eqb (g .kind) segmented) (offsetOf g a + 1) 0)
@@ -91,7 +91,7 @@ pub data FirstIs (g : Geometry) (t : Tables) (key : ℕ) (answer : Answer) : Typ
   absent : Nowhere (g .depth) (stores t key) → answer ≡ none (rowWords g) 0 → FirstIs g t key answer
 
 -- An all-match answers with the word in which the bit of each address says whether it has the key, and with their number
--- (rule 5.6).
+-- (rule 8.11).
 abbrev pub AllAre : Geometry → Tables → (key : ℕ) → Answer → Type 0
 AllAre g t key answer =
     answer ≡ matched (bitWords (matchWords g) (stores t key)) (count (g .depth) (stores t key))

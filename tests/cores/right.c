@@ -1,7 +1,7 @@
 /* A plain core with the functions of cam.h, for tests/core: it is right, and each slip is a change of one line. */
 #include "cam.h"
 
-#define SLICE 9u /* bits of a pattern that one group of rows of kind 1 stands for */
+#define STAGE 9u /* bits of a stage of kind 1 */
 
 struct memory {
     uint32_t kind, depth, width, set;
@@ -16,16 +16,16 @@ static int valid(uint32_t kind, uint32_t depth, uint32_t width, uint32_t set) {
 
 static uint32_t row_words(const struct memory *m) { return (m->depth / m->set + 63) / 64; }
 
-static uint32_t slices(const struct memory *m) { return m->kind == 1 ? (m->width + SLICE - 1) / SLICE : 1; }
+static uint32_t stages(const struct memory *m) { return m->kind == 1 ? (m->width + STAGE - 1) / STAGE : 1; }
 
 static uint64_t all_rows(const struct memory *m) {
-    uint32_t full = slices(m) - 1;
-    return UINT64_C(512) * full + (UINT64_C(1) << (m->width - SLICE * full));
+    uint32_t full = stages(m) - 1;
+    return UINT64_C(512) * full + (UINT64_C(1) << (m->width - STAGE * full));
 }
 
-/* The row of slice k of a pattern. */
+/* The row of stage k of a pattern. */
 static uint64_t *row(const struct memory *m, uint32_t pattern, uint32_t k) {
-    uint32_t value = m->kind == 1 ? pattern >> (SLICE * k) & 511 : pattern;
+    uint32_t value = m->kind == 1 ? pattern >> (STAGE * k) & 511 : pattern;
     return m->rows + (uint64_t)row_words(m) * (512 * k + value);
 }
 
@@ -33,7 +33,7 @@ static uint64_t *row(const struct memory *m, uint32_t pattern, uint32_t k) {
 static uint64_t indicated(const struct memory *m, uint32_t pattern, uint32_t j) {
     uint32_t left = m->depth / m->set - 64 * j;
     uint64_t word = left < 64 ? (UINT64_C(1) << left) - 1 : UINT64_MAX;
-    for (uint32_t k = 0; k < slices(m); k++) word &= row(m, pattern, k)[j];
+    for (uint32_t k = 0; k < stages(m); k++) word &= row(m, pattern, k)[j];
     return word;
 }
 
@@ -57,7 +57,7 @@ static uint64_t replace(struct memory *m, uint32_t address, uint32_t entry) {
     uint32_t former = m->store[address], set = address / m->set;
     if (former != CAM_EMPTY && former >> m->width) return CAM_BAD_ENTRY;
     uint64_t bit = UINT64_C(1) << set % 64;
-    for (uint32_t k = 0; k < slices(m); k++) {
+    for (uint32_t k = 0; k < stages(m); k++) {
         if (former != CAM_EMPTY && !held_beside(m, address, former)) row(m, former, k)[set / 64] &= ~bit;
         if (entry != CAM_EMPTY) row(m, entry, k)[set / 64] |= bit;
     }
@@ -139,9 +139,10 @@ static uint32_t mark(const struct memory *m, uint32_t set, uint32_t pattern, uin
 }
 
 uint64_t cam_all_match(FOUR, READ, uint64_t *matches, size_t matches_len, uint32_t pattern) {
-    uint64_t hits = 0;
-    BEGIN(0, valid(kind, depth, pattern_width, set_width) && matches_len == (depth + 63) / 64 ? pattern : 0);
+    BEGIN(0, 0);
     if (matches_len != (depth + 63) / 64) return CAM_BAD_LENGTHS;
+    if (pattern >> pattern_width) return CAM_BAD_PATTERN;
+    uint64_t hits = 0;
     for (uint32_t s = 0; s < depth / set_width; s++)
         if (indicated(&m, pattern, s / 64) >> s % 64 & 1 && mark(&m, s, pattern, 0) == 0) return CAM_FALSE_SET;
     for (size_t i = 0; i < matches_len; i++) matches[i] = 0;

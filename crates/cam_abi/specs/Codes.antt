@@ -44,7 +44,7 @@ told c n m = cond (ltb n 256) (refused n) (valueTold c (n - 256) m)
 abbrev pub four : (kind depth width set : ℕ) → Geometry
 four k d p w = record { kind = k; depth = d; «pattern_width» = p; «set_width» = w }
 
--- The number for a length that follows from a geometry: 256 and the words, or refusal 1 where the four numbers are no geometry.
+-- The number for a length that follows from a geometry: 256 and the words, or refusal 1 (rule 12.4).
 unfoldable pub sizeCode : Geometry → (words : Geometry → ℕ) → ℕ
 sizeCode g words = cond (valid g) (256 + words g) 1
 

@@ -9,7 +9,7 @@ use crate::generate::random_history;
 use crate::geometry::{geometry, Geometry};
 use crate::note::note;
 use crate::options::Options;
-use crate::parts::Counts;
+use crate::parts::{Counts, SHOWN_FAILURES};
 use crate::random::Random;
 use crate::tables::MATCH_WORD;
 use crate::trial::Trial;
@@ -19,9 +19,6 @@ use cam::{raw, Refusal};
 /// How many histories the owned memories have, and what keeps their generator apart.
 const HISTORIES: u64 = 1000;
 const NUMBER: u64 = 4;
-
-/// After so many failures the rest are only counted.
-const SHOWN_FAILURES: u64 = 3;
 
 /// Numbers past the small ones, around where a row gets another word and where a rule ends.
 const KINDS: [u32; 1] = [u32::MAX];

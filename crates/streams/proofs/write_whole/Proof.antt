@@ -1,5 +1,5 @@
 -- `streams::write_whole` meets its contract, and ends: each turn leaves fewer bytes or less patience.
-use Prim.Native.Nat.{ℕ, _+_, _-_, _≤_, _<_}
+use Prim.Native.Nat.{_+_, _-_, _≤_, _<_}
 use native.Mathlib.Omega.{arith}
 use lib.ListN.{length}
 use borrow.Author.Needs.{needs}

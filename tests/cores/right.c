@@ -121,7 +121,7 @@ uint64_t cam_first_match(FOUR, READ, uint32_t pattern) {
         uint32_t first = (64 * j + set) * set_width;
         if (kind != 2) return found(first, j + 1, 0);
         for (uint32_t i = 0; i < set_width; i++)
-            if (store[first + i] == pattern) return found(first + i, j + 1, i + 1);
+            if (store[first + i] == pattern) return found(first + i, j + 1, set_width);
         return CAM_FALSE_SET;
     }
     return found(CAM_NONE, last, 0);

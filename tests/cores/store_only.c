@@ -67,7 +67,7 @@ uint64_t cam_first_match(SHAPE, READ_TABLES, uint32_t pattern) {
     }
     for (uint32_t a = 0; a < depth; a++) {
         if (store[a] == pattern) {
-            uint64_t w = a / (64 * set) + 1, c = kind == 2 ? a % set + 1 : 0;
+            uint64_t w = a / (64 * set) + 1, c = kind == 2 ? set : 0;
             return CAM_ACCEPTED + a + (w << 16) + (c << 32);
         }
     }

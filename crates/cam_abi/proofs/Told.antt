@@ -2,15 +2,18 @@
 -- refusal is below 256, no pattern is the word of empty, no address is 65,535, and no count of words reaches 65,536.
 use Prim.Native.Nat.{ℕ, _+_, _*_, _/_, _%_, _<_}
 use mathlib.Core.Path.{_≡_, refl, ap, _∙_}
+use mathlib.Core.Bool.{true}
 use mathlib.Core.List.{List, []}
 use mathlib.Core.Option as Option
 use mathlib.Core.Option.{Option}
 use native.Mathlib.Omega.{arith}
+use lib.ListN.{length}
 use borrow.Author.Tests.{lt-ltb, le-ltb, ne-eqb}
 use Rattle.machines.specs.Refusals.{firstRefusal}
 use Rattle.machines.proofs.Refusals.{Each, given-says, passes}
 use Rattle.geometry.specs.declared.Geometry.{Geometry}
-use Rattle.geometry.specs.Sizes.{rowWords, addressOf}
+use Rattle.geometry.specs.Valid.{valid}
+use Rattle.geometry.specs.Sizes.{rowWords, addressOf, setLength}
 use Rattle.geometry.proofs.Facts.{Facts, facts, patterns-most}
 use Rattle.geometry.proofs.Places.{address-lt}
 use Rattle.geometry.proofs.Bounds.{sets-few, words-few}
@@ -21,7 +24,7 @@ use Rattle.reference.specs.Search.{takenWords}
 use Rattle.reference.specs.Statements.{FirstOnAny, no-set, set-alone, equal-entry, no-equal}
 use Rattle.reference.specs.Steps.{ownRefusals, refusals, accepted, outcome, step}
 use Rattle.reference.proofs.Entries.{word-fits}
-use Rattle.reference.proofs.Refused.{passed-valid}
+use Rattle.reference.proofs.Refused.{passed-valid, passed-lengths}
 use Rattle.reference.proofs.Searched.{first-any}
 use Rattle.cam_abi.specs.Codes.{codeOf, entryIn, placeIn, valueTold, told}
 
@@ -42,7 +45,10 @@ place-told key a w c m p q =
     let is : 256 + a + 65536 * w + 4294967296 * c ≡ 256 + v = omega arith in
     value-told (firstMatch key) _ v m is ∙ rw (low, middle, top)
 
-module _ (g : Geometry) (f : Facts g) where
+module _ (g : Geometry) (ok : valid g ≡ true) where
+  abbrev f : Facts g
+  f = facts g ok
+
   entry-told : (e : Entry) → Fits g e → entryIn (wordOf e) ≡ e
   unfolding wordOf
   entry-told empty h = refl
@@ -57,7 +63,7 @@ module _ (g : Geometry) (f : Facts g) where
   first-told t key x m (equal-entry s o first kind equal is) =
       let few : addressOf g s o < 65535 = omega (arith, address-lt g f s o (first .within) (equal .within), f .depth-most) in
       rw is
-      (place-told key (addressOf g s o) (s / 64 + 1) (o + 1) m (omega (arith, few)) (omega (arith, first .within, sets-few g f))
+      (place-told key (addressOf g s o) (s / 64 + 1) (setLength g s) m (omega (arith, few)) (omega (arith, first .within, sets-few g f))
       ∙ rw (ne-eqb (addressOf g s o) 65535 (λ e. omega (arith, few))))
   first-told t key x m (no-equal s first none-equal is) = unfold told in rw is
 
@@ -65,14 +71,14 @@ module _ (g : Geometry) (f : Facts g) where
       → told c (codeOf (held (storeEntry g t a))) m ≡ held (storeEntry g t a)
   held-told t c a m value = value-told c _ _ m refl ∙ value _ ∙ ap held (entry-told (storeEntry g t a) (word-fits g (storeWord t a)))
 
-  accepted-told : (t : Tables) (c : Call (List ℕ)) → told c (codeOf (accepted g t c .answer)) (accepted g t c .matches) ≡ accepted g t c .answer
+  accepted-told : (t : Tables) → length (t .store) ≡ g .depth → (c : Call (List ℕ)) → told c (codeOf (accepted g t c .answer)) (accepted g t c .matches) ≡ accepted g t c .answer
   unfolding accepted valueTold
-  accepted-told t clear = value-told clear 256 0 [] refl
-  accepted-told t (write a q) = held-told t (write a q) a [] (λ v. refl)
-  accepted-told t (erase a) = held-told t (erase a) a [] (λ v. refl)
-  accepted-told t (read a) = held-told t (read a) a [] (λ v. refl)
-  accepted-told t (firstMatch key) = first-told t key _ [] (first-any g f t key)
-  accepted-told t (allMatch key m) = value-told (allMatch key m) _ _ (takenWords g t key) refl
+  accepted-told t long clear = value-told clear 256 0 [] refl
+  accepted-told t long (write a q) = held-told t (write a q) a [] (λ v. refl)
+  accepted-told t long (erase a) = held-told t (erase a) a [] (λ v. refl)
+  accepted-told t long (read a) = held-told t (read a) a [] (λ v. refl)
+  accepted-told t long (firstMatch key) = first-told t key _ [] (first-any g ok t long key)
+  accepted-told t long (allMatch key m) = value-told (allMatch key m) _ _ (takenWords g t key) refl
 
 -- every refusal is below 256
 numbers-small : (g : Geometry) (t : Tables) (c : Call (List ℕ)) (n : ℕ) → firstRefusal (refusals g t c) ≡ Option.some n → n < 256
@@ -95,4 +101,4 @@ number-tells g t c = go (firstRefusal (refusals g t c)) refl
     go (Option.some n) e = unfold told in rw (lt-ltb n 256 (numbers-small g t c n e))
     go Option.none e =
         let p = passes (refusals g t c) e in
-        accepted-told g (facts g (passed-valid g t c p)) t c
+        accepted-told g (passed-valid g t c p) t (passed-lengths g t c p .0) c

@@ -6,22 +6,19 @@ use mathlib.Core.Bool.{Bool, true, false, not, _&&_, and-assoc, and-false, and-e
 use mathlib.Core.List.{List, []}
 use native.Mathlib.Omega.{arith}
 use lib.Dec.{eqb}
-use lib.ListN.{getD}
 use borrow.Author.Count.{below-more}
-use borrow.Author.Tests.{eqb-true, eq-eqb, ne-eqb}
+use borrow.Author.Tests.{eqb-true, eq-eqb}
 use Rattle.words.specs.Rules.{any, Nowhere}
 use Rattle.words.specs.Bits.{bit, clearBit}
 use Rattle.words.proofs.Rules.{both-ways, refuted, any-witness, any-true, any-false, any-ext, any-split}
 use Rattle.words.proofs.Bits.{bit-zero, bit-clear}
 use Rattle.geometry.specs.declared.Geometry.{Geometry}
 use Rattle.geometry.specs.Valid.{segmented}
-use Rattle.geometry.specs.Sizes.{sets, rowWords, addressOf, setLength}
+use Rattle.geometry.specs.Sizes.{sets, rowWords, setLength}
 use Rattle.geometry.proofs.Facts.{Facts}
 use Rattle.geometry.proofs.Places.{word-lt}
-use Rattle.reference.specs.Entry.{emptyWord}
 use Rattle.reference.specs.Search.{joined, indicated, seekEntry, isFalse, inSet, anyIsFalse}
-use Rattle.reference.specs.Statements.{stores}
-use Rattle.reference.proofs.Searched.{false-means}
+use Rattle.reference.proofs.Searched.{false-means, equalAt}
 use Rattle.calls.specs.Answers.{tables}
 use Rattle.search.proofs.Seeking.{joined-in-sets}
 
@@ -31,27 +28,14 @@ module _ (g : Geometry) (store : List ℕ) (key s : ℕ) where
   abbrev pub setIsFalse : Bool
   setIsFalse = isFalse (inSet g (tables store []) key s 0)
 
-  -- whether the entry at an offset of the set is the key
-  abbrev pub equalAt : ℕ → Bool
-  equalAt o = stores (tables store []) key (addressOf g s o)
-
   pub other-kind : (g .kind ≡ segmented → ⊥) → false ≡ setIsFalse
   other-kind h = sym (refuted setIsFalse (λ e. h (eqb-true (g .kind) segmented (false-means g (tables store []) key s 0 .0 e .0))))
 
-  -- a is the address at offset o, and v its word, which the code compares with the key
-  module _ (a o v : ℕ) (is : a ≡ addressOf g s o) (read : v ≡ getD store a emptyWord) where
-    compared : equalAt o ≡ eqb v key
-    compared = rw (← is, read)
+  pub equal-entry : (o : ℕ) → o < setLength g s → equalAt g (tables store []) key s o ≡ true → false ≡ setIsFalse
+  equal-entry o within equal =
+      sym (refuted setIsFalse (λ e. false≢true (sym (false-means g (tables store []) key s 0 .0 e .1 o within) ∙ equal)))
 
-    pub entry-equal : o < setLength g s → v ≡ key → false ≡ setIsFalse
-    entry-equal within h =
-        let equal = compared ∙ eq-eqb v key h in
-        sym (refuted setIsFalse (λ e. false≢true (sym (false-means g (tables store []) key s 0 .0 e .1 o within) ∙ equal)))
-
-    pub entry-passed : (next : ℕ) → Nowhere o equalAt → (v ≡ key → ⊥) → next ≡ o + 1 → Nowhere next equalAt
-    entry-passed next before h e = rw e (below-more _ o before (compared ∙ ne-eqb v key h))
-
-  pub no-entry : g .kind ≡ segmented → (n : ℕ) → setLength g s ≤ n → Nowhere n equalAt → true ≡ setIsFalse
+  pub no-entry : g .kind ≡ segmented → (n : ℕ) → setLength g s ≤ n → Nowhere n (equalAt g (tables store []) key s) → true ≡ setIsFalse
   no-entry kind n l h = sym (false-means g (tables store []) key s 0 .1 (eq-eqb (g .kind) segmented kind, λ o m. h o (omega arith)))
 
 -- ---- one word

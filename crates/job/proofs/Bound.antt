@@ -17,10 +17,10 @@ use Rattle.machines.specs.Refusals.{firstRefusal}
 use Rattle.machines.proofs.Refusals.{Each, given-says}
 use Rattle.geometry.specs.declared.Geometry.{Geometry}
 use Rattle.geometry.specs.Valid.{segmented, valid}
-use Rattle.geometry.specs.Sizes.{matchWords, setOf, offsetOf}
+use Rattle.geometry.specs.Sizes.{matchWords, setOf, setLength}
 use Rattle.geometry.proofs.Facts.{Facts, facts, patterns-most, kind-most}
 use Rattle.geometry.proofs.Bounds.{words-few}
-use Rattle.geometry.proofs.Places.{length-most, offset-lt, matches-least}
+use Rattle.geometry.proofs.Places.{length-most, matches-least}
 use Rattle.reference.specs.Calls.{Call, clear, write, erase, read, firstMatch, allMatch, held}
 use Rattle.reference.specs.Array.{Array, emptied, entryAt, holding, Sound, counted, arrayRefusals, arrayAccepted, arrayOutcome, arrayStep}
 use Rattle.reference.proofs.Emptied.{emptied-sound}
@@ -47,14 +47,14 @@ module _ (g : Geometry) (ok : valid g ≡ true) (shallow : g .depth ≤ 1024) (e
   unfolding counted
   counted-small key = go (lowest-is (g .depth) (holding es key))
     where
-      compared : (a : ℕ) → a < g .depth → (b : Bool) → cond b (offsetOf g a + 1) 0 < 10 ^ 4
-      compared a h true = omega (arith, offset-lt g f a h, length-most g f (setOf g a))
-      compared a h false = omega arith
+      compared : (a : ℕ) (b : Bool) → cond b (setLength g (setOf g a)) 0 < 10 ^ 4
+      compared a true = omega (arith, length-most g f (setOf g a))
+      compared a false = omega arith
 
       go : LowestIs (g .depth) (holding es key) (lowest (g .depth) (holding es key)) → Small (counted g (lowest (g .depth) (holding es key)))
       go (at-first i found first) =
           let inside : i < 1024 = omega (arith, first .within) in
-          rw found (omega arith, omega (arith, div-le-self i (64 * g .«set_width»)), compared i (first .within) (eqb (g .kind) segmented))
+          rw found (omega arith, omega (arith, div-le-self i (64 * g .«set_width»)), compared i (eqb (g .kind) segmented))
       go (at-none missing nowhere) = rw missing (omega (arith, words-few g f), omega arith)
 
   accepted-small : (c : Call ℕ) → Small (arrayAccepted g es c .answer)

@@ -6,7 +6,7 @@ use Rattle.words.specs.Bits.{word, bitWords}
 use Rattle.machines.specs.Refusals.{firstRefusal}
 use Rattle.machines.specs.Machine as machine
 use Rattle.geometry.specs.Valid.{valid}
-use Rattle.geometry.specs.Sizes.{patterns, sets, rowWords, matchWords}
+use Rattle.geometry.specs.Sizes.{patterns, sets, rowWords, matchWords, setLength}
 use Rattle.geometry.specs.Stages.{stages, stageWidth, rows, indicatorWords}
 use Rattle.reference.specs.Entry.{holds}
 use Rattle.reference.specs.Refusals.{badAddress, badPattern}
@@ -20,5 +20,5 @@ use Rattle.job.specs.Output.{obeyed, arrayCommand, numbered, report, pri
 use Rattle.job.specs.Examples.{Example, bytesOf, linesOf, examples}
 
 pub examples-hold : map (λ (e : Example). output (e .file)) examples ≡ map (λ (e : Example). e .prints) examples
-unfolding count lowest tabulate word bitWords valid patterns sets rowWords matchWords stages stageWidth rows indicatorWords holds firstRefusal badAddress badPattern emptied counted arrayRefusals arrayAccepted arrayOutcome arrayStep ascii places decimal hexadecimal ended line entryText answerItems answerLine firstLine stopLine field headerOf commandAt commandsFrom commandsOutside badFile tooLarge geometryStops fileStops decoded obeyed arrayCommand machine.run numbered report printed output bytesOf linesOf examples
+unfolding count lowest tabulate word bitWords valid patterns sets rowWords matchWords setLength stages stageWidth rows indicatorWords holds firstRefusal badAddress badPattern emptied counted arrayRefusals arrayAccepted arrayOutcome arrayStep ascii places decimal hexadecimal ended line entryText answerItems answerLine firstLine stopLine field headerOf commandAt commandsFrom commandsOutside badFile tooLarge geometryStops fileStops decoded obeyed arrayCommand machine.run numbered report printed output bytesOf linesOf examples
 examples-hold = refl

@@ -63,7 +63,7 @@ examples =
     (command 1 3 1 gives "0 was -"
     ∷ command 1 2 1 gives "1 was -"
     ∷ command 1 3 2 gives "2 was 1"
-    ∷ command 3 0 1 gives "3 at 2 w 1 c 1"
+    ∷ command 3 0 1 gives "3 at 2 w 1 c 2"
     ∷ command 3 0 2 gives "4 at 3 w 1 c 2"
     ∷ command 4 0 1 gives "5 hits 1 0000000000000004"
     ∷ command 2 2 0 gives "6 was 1"
@@ -141,12 +141,14 @@ examples =
     ∷ command 3 0 6 gives "12 at 68 w 2 c 0"
     ∷ command 3 0 7 gives "13 none w 2 c 0"
     ∷ [])
-    -- an address, a w and a c that differ
+    -- an address, a w and a c that differ; of two equal entries in a line the lower is the hit, and c is the same
     ∷ job 2 195 2 3 "kind 2 depth 195 width 2 set 3"
     (command 1 194 2 gives "0 was -"
     ∷ command 3 0 2 gives "1 at 194 w 2 c 3"
     ∷ command 3 0 1 gives "2 none w 2 c 0"
-    ∷ command 4 0 2 gives "3 hits 1 0000000000000000 0000000000000000 0000000000000000 0000000000000004"
+    ∷ command 1 193 2 gives "3 was -"
+    ∷ command 3 0 2 gives "4 at 193 w 2 c 3"
+    ∷ command 4 0 2 gives "5 hits 2 0000000000000000 0000000000000000 0000000000000000 0000000000000006"
     ∷ [])
     -- figures of one digit to nine; the four bytes of a pattern, least first, written out once
     ∷ job 1 3 27 1 "kind 1 depth 3 width 27 set 1"

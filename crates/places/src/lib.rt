@@ -1,9 +1,9 @@
 // Addresses, sets, offsets in a set and words of a row: the one rule between them (rule 2.5 of docs/MEMORY.md), and where each
 // stands in the lent tables (section 3 there). Only this file makes them or takes them apart. Sets and offsets hand out no
 // number, so that anywhere else one cannot be taken for another, added to it or compared with it. An address takes a caller's
-// number and hands out its own for an answer (`Address::new`, `number`), and a set takes a caller's number for the line
-// (`SetIndex::from_caller`); tests/types_apart says which files may use these. What no type tells apart are the words of a row
-// and those of a match word.
+// number and hands out its own for an answer (`Address::new`, `number`), a set takes a caller's number for the line
+// (`SetIndex::from_caller`), and a set's length hands out its own for a count (`SetLength::entries`); tests/types_apart says
+// which files may use these. What no type tells apart are the words of a row and those of a match word.
 use geometry::Geometry;
 use sizes::Sizes;
 ghost use Prim.Native.Nat.{_+_, _*_, _/_, _%_, _<_};
@@ -28,7 +28,7 @@ pub struct SetIndex(u32);
 pub struct Offset(u32);
 
 // How many addresses a set has. Only a set gives it, and only an offset is tested against it.
-pub struct SetLength(u32);
+pub struct SetLength(u16);
 
 // Which word of a row: it steps on from the first.
 pub struct RowWord(usize);
@@ -136,7 +136,7 @@ impl SetIndex {
         requires { ⌜ (valid g ≡ true) × (self .0 < sets g) ⌝ }
         ensures { λ r. ⌜ r .0 ≡ setLength g (self .0) ⌝ }
     {
-        SetLength(g.set_width)
+        SetLength(g.set_width as u16)
     }
 
     // Its address at an offset. The check of the call shows that the geometry is valid. The loops over a set show the rest:
@@ -188,6 +188,15 @@ impl SetIndex {
     }
 }
 
+impl SetLength {
+    // The number of entries in the set's line, for the count of an answer.
+    pub fn entries(self) -> u16
+        ensures { λ r. ⌜ r ≡ self .0 ⌝ }
+    {
+        self.0
+    }
+}
+
 impl Offset {
     pub fn first() -> Self
         ensures { λ r. ⌜ r .0 ≡ 0 ⌝ }
@@ -208,7 +217,7 @@ impl Offset {
     pub fn is_within(self, length: SetLength) -> bool
         ensures { λ r. ⌜ r ≡ ltb (self .0) (length .0) ⌝ }
     {
-        self.0 < length.0
+        self.0 < length.0 as u32
     }
 }
 

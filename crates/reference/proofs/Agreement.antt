@@ -2,7 +2,7 @@
 use Prim.Native.Nat.{ℕ, _<_}
 use mathlib.Core.Path.{_≡_, refl, sym, ap, ap₂, _∙_}
 use mathlib.Core.Logic.{_⊎_, inl, inr}
-use mathlib.Core.Bool.{Bool, true, false, not, false≢true}
+use mathlib.Core.Bool.{Bool, true, false, not}
 use mathlib.Core.List.{List, [], _∷_, _++_}
 use mathlib.Core.Option as Option
 use mathlib.Core.Option.{Option}
@@ -14,7 +14,7 @@ use borrow.Author.Tests.{eqb-true, eqb-false}
 use Rattle.words.specs.Rules as rule
 use Rattle.words.specs.Rules.{count, First}
 use Rattle.words.specs.Bits.{bitWords, totalOnes}
-use Rattle.words.proofs.Rules.{count-ext, first-unique, LowestIs, at-first, at-none, lowest-is}
+use Rattle.words.proofs.Rules.{count-ext, lowest-first, lowest-nowhere}
 use Rattle.words.proofs.Bits.{bitWords-ext}
 use Rattle.machines.specs.Refusals.{RefusalRow, _given-when_, firstRefusal, Passed}
 use Rattle.machines.proofs.Refusals.{passes, last-passes}
@@ -92,22 +92,19 @@ module _ (g : Geometry) (ok : valid g ≡ true) (es : Array) (sound : Sound g es
 
   first-agrees : (key : ℕ) → key < patterns g → answerOf (firstFound g (tablesOf g es) key) ≡ counted g (rule.lowest (g .depth) (holding es key))
   unfolding counted
-  first-agrees key small = go (first-is g f (tablesOf g es) mirrors key small _ (first-any g f (tablesOf g es) key)) (lowest-is (g .depth) (holding es key))
+  first-agrees key small = go (first-is g f (tablesOf g es) mirrors key small _ (first-any g ok (tablesOf g es) (mirrors .entries) key))
     where
-      there : (i : ℕ) → First (g .depth) (holding es key) i → First (g .depth) (stores (tablesOf g es) key) i
-      there i h = record {
+      there : (a : ℕ) → First (g .depth) (stores (tablesOf g es) key) a → First (g .depth) (holding es key) a
+      there a h = record {
         within = h .within;
-        here = held-is key small i ∙ h .here;
-        none-before = λ j l. held-is key small j ∙ h .none-before j l;
+        here = sym (held-is key small a) ∙ h .here;
+        none-before = λ b l. sym (held-is key small b) ∙ h .none-before b l;
       }
 
-      go : FirstIs g (tablesOf g es) key (answerOf (firstFound g (tablesOf g es) key)) → LowestIs (g .depth) (holding es key) (rule.lowest (g .depth) (holding es key))
+      go : FirstIs g (tablesOf g es) key (answerOf (firstFound g (tablesOf g es) key))
           → answerOf (firstFound g (tablesOf g es) key) ≡ counted g (rule.lowest (g .depth) (holding es key))
-      go (lowest a first answer) (at-first i low low-first) = rw (low, ← first-unique (g .depth) _ a i first (there i low-first)) answer
-      go (lowest a first answer) (at-none low nowhere) =
-          absurd (false≢true (sym (nowhere a (first .within)) ∙ sym (held-is key small a) ∙ first .here))
-      go (absent nowhere answer) (at-first i low first) = absurd (false≢true (sym (nowhere i (there i first .within)) ∙ there i first .here))
-      go (absent nowhere answer) (at-none low _) = rw low answer
+      go (lowest a first answer) = rw (lowest-first (g .depth) (holding es key) a (there a first)) answer
+      go (absent nowhere answer) = rw (lowest-nowhere (g .depth) (holding es key) (λ a l. sym (held-is key small a) ∙ nowhere a l)) answer
 
   taken-holds : (key : ℕ) → key < patterns g → (a : ℕ) → taken g (tablesOf g es) key a ≡ holding es key a
   taken-holds key small a = taken-is g f (tablesOf g es) mirrors key small a ∙ held-is key small a

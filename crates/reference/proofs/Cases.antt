@@ -4,7 +4,7 @@
 use mathlib.Core.Path.{_≡_, refl}
 use mathlib.Core.List.{map}
 use lib.Count.{trailingZeros}
-use Rattle.words.specs.Rules.{any, count, member, keep, tabulate}
+use Rattle.words.specs.Rules.{any, count, lowest, member, keep, tabulate}
 use Rattle.words.specs.Bits.{bit, setBit, clearBit, changeBit, rowMask, word, bitWords, totalOnes}
 use Rattle.words.specs.Seek.{seek}
 use Rattle.machines.specs.Refusals.{firstRefusal}
@@ -18,6 +18,7 @@ use Rattle.reference.specs.Entry.{wordOf, entryOf}
 use Rattle.reference.specs.Calls.{lent}
 use Rattle.reference.specs.Refusals.{badAddress, badPattern}
 use Rattle.reference.specs.Image.{entryRows, covers}
+use Rattle.reference.specs.Line.{line}
 use Rattle.reference.specs.Update.{replaced}
 use Rattle.reference.specs.Search.{joined, indicated, seekWord, seekEntry, lowestSet, isFalse, inSet, firstFound, anyIsFalse, answerOf, taken, takenWords}
 use Rattle.reference.specs.Steps.{badLengths, badMatches, badEntry, ownRefusals, refusals, clearTables, accepted, outcome, step, Outcome}
@@ -25,11 +26,11 @@ use Rattle.reference.specs.History.{run}
 use Rattle.reference.specs.Cases.{Case, cases, Trial, trials, isWrong, isMirror, Mirror, mirrors}
 
 pub cases-hold : map (λ (r : Case). map (λ (o : Outcome). o .answer) (run (r .geometry) (r .tables) (r .calls))) cases ≡ map (λ (r : Case). r .answers) cases
-unfolding trailingZeros any count member keep tabulate bit setBit clearBit changeBit rowMask word bitWords totalOnes seek valid patterns sets rowWords matchWords setLength stages stageWidth stage rowOf rowsOf rows indicatorWords wordOf entryOf firstRefusal badAddress badPattern entryRows covers change othersCover moved replaced joined indicated seekWord seekEntry lowestSet isFalse inSet firstFound anyIsFalse answerOf taken takenWords badLengths badMatches badEntry ownRefusals refusals clearTables accepted outcome step machine.run cases
+unfolding trailingZeros any count lowest member keep tabulate bit setBit clearBit changeBit rowMask word bitWords totalOnes seek valid patterns sets rowWords matchWords setLength stages stageWidth stage rowOf rowsOf rows indicatorWords wordOf entryOf firstRefusal badAddress badPattern entryRows covers change othersCover moved replaced line joined indicated seekWord seekEntry lowestSet isFalse inSet firstFound anyIsFalse answerOf taken takenWords badLengths badMatches badEntry ownRefusals refusals clearTables accepted outcome step machine.run cases
 cases-hold = refl
 
 pub trials-hold : map (λ (r : Trial). step (r .geometry) (r .tables) (r .call)) trials ≡ map (λ (r : Trial). r .leaves) trials
-unfolding trailingZeros any count member keep tabulate bit setBit clearBit changeBit rowMask word bitWords totalOnes seek valid patterns sets rowWords matchWords setLength stages stageWidth stage rowOf rowsOf rows indicatorWords wordOf entryOf firstRefusal badAddress badPattern entryRows covers change othersCover moved replaced joined indicated seekWord seekEntry lowestSet isFalse inSet firstFound anyIsFalse answerOf taken takenWords badLengths badMatches badEntry ownRefusals refusals clearTables accepted outcome step lent trials
+unfolding trailingZeros any count lowest member keep tabulate bit setBit clearBit changeBit rowMask word bitWords totalOnes seek valid patterns sets rowWords matchWords setLength stages stageWidth stage rowOf rowsOf rows indicatorWords wordOf entryOf firstRefusal badAddress badPattern entryRows covers change othersCover moved replaced line joined indicated seekWord seekEntry lowestSet isFalse inSet firstFound anyIsFalse answerOf taken takenWords badLengths badMatches badEntry ownRefusals refusals clearTables accepted outcome step lent trials
 trials-hold = refl
 
 pub mirrors-hold : map (λ (r : Mirror). isMirror (r .geometry) (r .tables)) mirrors ≡ map (λ (r : Mirror). r .verdict) mirrors

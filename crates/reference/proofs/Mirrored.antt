@@ -17,7 +17,7 @@ use Rattle.geometry.specs.declared.Geometry.{Geometry}
 use Rattle.geometry.specs.Valid.{valid, segmented}
 use Rattle.geometry.specs.Sizes.{patterns, sets, matchWords, setOf, offsetOf, addressOf, setLength}
 use Rattle.geometry.proofs.Facts.{Facts, facts, patterns-most}
-use Rattle.geometry.proofs.Places.{set-lt, offset-lt, address-lt, address-of, set-of, offset-of, length-alone, alone-address, alone-set, below-address, word-of}
+use Rattle.geometry.proofs.Places.{set-lt, offset-lt, address-lt, address-of, set-of, length-alone, alone-address, alone-set, below-address, word-of}
 use Rattle.reference.specs.Entry.{emptyWord}
 use Rattle.reference.specs.Calls.{firstMatch, allMatch, Answer, matched}
 use Rattle.reference.specs.Tables.{Tables, storeWord}
@@ -68,7 +68,7 @@ module _ (g : Geometry) (f : Facts g) (t : Tables) (mirrors : Mirrors g t) (key 
   first-is answer (no-set nowhere e) = absent (λ a l. not-held a l (nowhere (setOf g a) (set-lt g f a l))) e
   first-is answer (equal-entry s o first kind place e) =
       lowest (addressOf g s o) (first-address s o first place)
-      (rw (kind, word-of g f (addressOf g s o), set-of g f s o (place .within), offset-of g f s o (place .within)) e)
+      (rw (kind, word-of g f (addressOf g s o), set-of g f s o (place .within)) e)
   first-is answer (set-alone s first kind e) =
       let w = witness s (first .here) in
       let same : addressOf g s (w .0) ≡ s = alone-address g f s (w .0) kind (w .1) in

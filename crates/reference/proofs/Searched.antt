@@ -13,7 +13,7 @@ use borrow.Author.Tests.{ltb-true, lt-ltb, eqb-true, eq-eqb}
 use Rattle.words.specs.Rules.{count, member, First, Nowhere}
 use Rattle.words.specs.Bits.{bit, rowMask, totalOnes}
 use Rattle.words.specs.Seek.{Sought, found, missed}
-use Rattle.words.proofs.Rules.{any-witness, any-true, refuted, member-tabulate, first-unique}
+use Rattle.words.proofs.Rules.{any-witness, any-true, refuted, member-tabulate, first-unique, LowestIs, at-first, at-none, lowest-is}
 use Rattle.words.proofs.Bits.{bit-and, bit-mask, mask-lt, ones-below}
 use Rattle.words.proofs.Seek.{seek-found, seek-missed, row-word, row-first, row-nowhere}
 use Rattle.machines.specs.Refusals.{_given-when_, firstRefusal}
@@ -30,6 +30,7 @@ use Rattle.reference.specs.Search.{joined, indicated, seekWord, seekEntr
 use Rattle.reference.specs.Steps.{badMatches, ownRefusals, refusals, accepted, outcome, step}
 use Rattle.reference.specs.Statements.{stores, NoEqual, FirstOnAny, no-set, set-alone, equal-entry, AllOnAny, all-taken}
 use Rattle.reference.proofs.Limits.{lengths-pass, pattern-passes}
+use Rattle.reference.proofs.Line.{line-length}
 
 module _ (g : Geometry) (t : Tables) (j : ℕ) where
   joins : ℕ → ℕ → ℕ
@@ -92,42 +93,41 @@ joined-lt g t key j = lt-of-le-of-lt (joined-le g t j (rowMask (sets g) j) (rows
 -- ---- the set that decides
 
 module _ (g : Geometry) (t : Tables) (key : ℕ) where
-  abbrev equalAt : (set offset : ℕ) → Bool
+  -- whether the entry of a set at an offset is the key
+  abbrev pub equalAt : (set offset : ℕ) → Bool
   equalAt s o = stores t key (addressOf g s o)
 
-  -- the comparison of a set's entries finds the first that is equal, and has looked at it and all before it
-  entry-found : (s o c : ℕ) → seekEntry g t key s ≡ found o c → First (setLength g s) (equalAt s) o × (c ≡ o + 1)
+  -- the comparison of a set's entries finds the first that is equal
+  compared : (s : ℕ) → LowestIs (setLength g s) (equalAt s) (seekEntry g t key s)
   unfolding seekEntry
-  entry-found s o c e = seek-found (setLength g s) (equalAt s) o c e
-
-  entry-missed : (s c : ℕ) → seekEntry g t key s ≡ missed c → Nowhere (setLength g s) (equalAt s)
-  unfolding seekEntry
-  entry-missed s c e = seek-missed (setLength g s) (equalAt s) c e .0
+  compared s = lowest-is (setLength g s) (equalAt s)
 
   -- a set is false exactly when it has no equal entry
   pub false-means : (s w : ℕ) → (isFalse (inSet g t key s w) ≡ true) ↔ NoEqual g t key s
   unfolding isFalse inSet
-  false-means s w = (there (eqb (g .kind) segmented) (seekEntry g t key s) refl refl, back (seekEntry g t key s) refl)
+  false-means s w = (there (eqb (g .kind) segmented) refl (compared s), back (compared s))
     where
-      there : (b : Bool) (r : Sought) → eqb (g .kind) segmented ≡ b → seekEntry g t key s ≡ r → isFalse (inSet g t key s w) ≡ true → NoEqual g t key s
-      there true (found o c) p q h = absurd (false≢true (rw (p, inSet, q) at h))
-      there true (missed c) p q h = (p, entry-missed s c q)
-      there false r p q h = absurd (false≢true (rw (p, inSet) at h))
+      there : (b : Bool) → eqb (g .kind) segmented ≡ b → LowestIs (setLength g s) (equalAt s) (seekEntry g t key s)
+          → isFalse (inSet g t key s w) ≡ true → NoEqual g t key s
+      there true p (at-first o q first) h = absurd (false≢true (rw (p, inSet, q) at h))
+      there true p (at-none q nowhere) h = (p, nowhere)
+      there false p r h = absurd (false≢true (rw (p, inSet) at h))
 
-      back : (r : Sought) → seekEntry g t key s ≡ r → NoEqual g t key s → isFalse (inSet g t key s w) ≡ true
-      back (found o c) q (kind, nowhere) = let first = entry-found s o c q .0 in absurd (false≢true (sym (nowhere o (first .within)) ∙ first .here))
-      back (missed c) q (kind, nowhere) = rw (kind, inSet, q)
+      back : LowestIs (setLength g s) (equalAt s) (seekEntry g t key s) → NoEqual g t key s → isFalse (inSet g t key s w) ≡ true
+      back (at-first o q first) (kind, nowhere) = absurd (false≢true (sym (nowhere o (first .within)) ∙ first .here))
+      back (at-none q _) (kind, nowhere) = rw (kind, inSet, q)
 
-  in-set : (s w : ℕ) → First (sets g) (indicated g t key) s → w ≡ s / 64 + 1 → FirstOnAny g t key (answerOf (inSet g t key s w))
+  -- and where it has one, the whole line was fetched
+  in-set : valid g ≡ true → length (t .store) ≡ g .depth → (s w : ℕ) → First (sets g) (indicated g t key) s → w ≡ s / 64 + 1
+      → FirstOnAny g t key (answerOf (inSet g t key s w))
   unfolding inSet answerOf
-  in-set s w first looks = go (eqb (g .kind) segmented) (seekEntry g t key s) refl refl
+  in-set ok long s w first looks = go (eqb (g .kind) segmented) refl (compared s)
     where
-      go : (b : Bool) (r : Sought) → eqb (g .kind) segmented ≡ b → seekEntry g t key s ≡ r → FirstOnAny g t key (answerOf (inSet g t key s w))
-      go true (found o c) p q =
-          let e = entry-found s o c q in
-          equal-entry s o first p (e .0) (rw (p, inSet, q, looks, e .1))
-      go true (missed c) p q = FirstOnAny.no-equal s first (p, entry-missed s c q) (rw (p, inSet, q))
-      go false r p q = set-alone s first p (rw (p, inSet, looks))
+      go : (b : Bool) → eqb (g .kind) segmented ≡ b → LowestIs (setLength g s) (equalAt s) (seekEntry g t key s)
+          → FirstOnAny g t key (answerOf (inSet g t key s w))
+      go true p (at-first o q place) = equal-entry s o first p place (rw (p, inSet, q, looks, line-length g (t .store) s ok long (first .within) .0))
+      go true p (at-none q nowhere) = FirstOnAny.no-equal s first (p, nowhere) (rw (p, inSet, q))
+      go false p r = set-alone s first p (rw (p, inSet, looks))
 
 -- no word of the row was found: no set is indicated, and every word was looked at
 words-missed : (g : Geometry) → Facts g → (t : Tables) (key w : ℕ) → seekWord g t key ≡ missed w → Nowhere (sets g) (indicated g t key) × (w ≡ rowWords g)
@@ -147,13 +147,13 @@ words-found g t key j w e =
       rw (row-word (joined g t key) (joined-lt g t key) j (p .0 .here)) (p .1),
     )
 
-pub first-any : (g : Geometry) → Facts g → (t : Tables) (key : ℕ) → FirstOnAny g t key (answerOf (firstFound g t key))
+pub first-any : (g : Geometry) → valid g ≡ true → (t : Tables) → length (t .store) ≡ g .depth → (key : ℕ) → FirstOnAny g t key (answerOf (firstFound g t key))
 unfolding firstFound answerOf
-first-any g f t key = go (seekWord g t key) refl
+first-any g ok t long key = go (seekWord g t key) refl
   where
     go : (r : Sought) → seekWord g t key ≡ r → FirstOnAny g t key (answerOf (elim r [ found j w ↦ inSet g t key (lowestSet g t key j) w | missed w ↦ nothing w 0 ]))
-    go (missed w) e = let p = words-missed g f t key w e in no-set (p .0) (ap (λ n. none n 0) (p .1))
-    go (found j w) e = let p = words-found g t key j w e in in-set g t key (lowestSet g t key j) w (p .0) (p .1)
+    go (missed w) e = let p = words-missed g (facts g ok) t key w e in no-set (p .0) (ap (λ n. none n 0) (p .1))
+    go (found j w) e = let p = words-found g t key j w e in in-set g t key ok long (lowestSet g t key j) w (p .0) (p .1)
 
 -- ---- row 6 of the table
 
@@ -238,8 +238,8 @@ module _ (g : Geometry) (ok : valid g ≡ true) (t : Tables) (stored : length (t
   first-match-any = rw (ok, lengths-pass g t .1 (stored, words), pattern-passes g key .1 small) (go (isFalse (firstFound g t key)) refl)
     where
       go : (b : Bool) → isFalse (firstFound g t key) ≡ b → FirstOnAny g t key (outcome g t (firstMatch key) (firstRefusal (6 given-when b ∷ [])) .answer)
-      go true e = rw (false-answer (firstFound g t key) e) at (first-any g (facts g ok) t key)
-      go false e = first-any g (facts g ok) t key
+      go true e = rw (false-answer (firstFound g t key) e) at (first-any g ok t stored key)
+      go false e = first-any g ok t stored key
 
   pub all-match-any : (m : List ℕ) → length m ≡ matchWords g → AllOnAny g t key (step g t (allMatch key m) .answer)
   unfolding step outcome refusals ownRefusals badMatches firstRefusal accepted

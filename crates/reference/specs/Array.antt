@@ -13,7 +13,7 @@ use Rattle.words.specs.Bits.{bitWords}
 use Rattle.machines.specs.Refusals.{RefusalRow, _given-when_, firstRefusal}
 use Rattle.geometry.specs.declared.Geometry.{Geometry}
 use Rattle.geometry.specs.Valid.{segmented}
-use Rattle.geometry.specs.Sizes.{rowWords, matchWords, offsetOf}
+use Rattle.geometry.specs.Sizes.{rowWords, matchWords, setOf, setLength}
 use Rattle.reference.specs.Entry.{Entry, empty, pattern, Fits, holds}
 use Rattle.reference.specs.Calls.{Call, clear, write, erase, read, firstMatch, allMatch, Answer, refused, cleared, held, at, none, matched}
 use Rattle.reference.specs.Refusals.{badAddress, badPattern}
@@ -39,7 +39,7 @@ holding es key a = holds (entryAt es a) key
 
 -- The answer of a first-match with w and c by their formulas (rules 5.5 and 5.7).
 unfoldable pub counted : Geometry → Option ℕ → Answer
-counted g (Option.some a) = at a (a / (64 * g .«set_width») + 1) (cond (eqb (g .kind) segmented) (offsetOf g a + 1) 0)
+counted g (Option.some a) = at a (a / (64 * g .«set_width») + 1) (cond (eqb (g .kind) segmented) (setLength g (setOf g a)) 0)
 counted g Option.none = none (rowWords g) 0
 
 -- The numbers with which the array refuses (rule 5.8).

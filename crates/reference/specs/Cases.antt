@@ -58,9 +58,9 @@ cases =
     -- P2
     ∷ onS (write 3 0 ∷ firstMatch 0 ∷ []) (held empty ∷ at 3 1 2 ∷ [])
     -- P3
-    ∷ onS (write 2 1 ∷ write 3 1 ∷ write 3 2 ∷ firstMatch 1 ∷ []) (held empty ∷ held empty ∷ held (pattern 1) ∷ at 2 1 1 ∷ [])
+    ∷ onS (write 2 1 ∷ write 3 1 ∷ write 3 2 ∷ firstMatch 1 ∷ []) (held empty ∷ held empty ∷ held (pattern 1) ∷ at 2 1 2 ∷ [])
     -- P4
-    ∷ onS (write 2 1 ∷ write 2 1 ∷ firstMatch 1 ∷ []) (held empty ∷ held (pattern 1) ∷ at 2 1 1 ∷ [])
+    ∷ onS (write 2 1 ∷ write 2 1 ∷ firstMatch 1 ∷ []) (held empty ∷ held (pattern 1) ∷ at 2 1 2 ∷ [])
     -- P5
     ∷ onS (write 6 3 ∷ write 1 3 ∷ firstMatch 3 ∷ allMatch 3 (9 ∷ []) ∷ []) (held empty ∷ held empty ∷ at 1 1 2 ∷ matched (66 ∷ []) 2 ∷ [])
     -- P6
@@ -112,6 +112,10 @@ alone k = record { kind = k; depth = 4; «pattern_width» = 1; «set_width» = 1
 abbrev pub noKind : Geometry
 noKind = record { kind = 3; depth = 8; «pattern_width» = 2; «set_width» = 2 }
 
+-- Two sets of four addresses.
+abbrev pub wide : Geometry
+wide = record { kind = 2; depth = 8; «pattern_width» = 1; «set_width» = 4 }
+
 abbrev pub stored : (a b c d : ℕ) → List ℕ
 stored a b c d = a ∷ b ∷ c ∷ d ∷ E ∷ E ∷ E ∷ E ∷ []
 
@@ -145,6 +149,9 @@ trials =
     ∷ refuses S (stored 4 E E E) zeros (write 0 4) 4 []
     ∷ answers-with S (stored 4 2 E E) zeros (read 1) (held (pattern 2)) []
     ∷ writes S (stored 4 4 E E) zeros (write 2 1) (held empty) (stored 4 4 1 E) (row1 2)
+    -- two equal entries in a line: the first is the hit, the whole line is counted
+    ∷ answers-with S (stored 1 1 E E) (row1 1) (firstMatch 1) (at 0 1 2) []
+    ∷ answers-with wide (1 ∷ E ∷ E ∷ E ∷ E ∷ 1 ∷ 1 ∷ E ∷ []) (0 ∷ 2 ∷ []) (firstMatch 1) (at 5 1 4) []
     -- a false set behind a true one: first-match does not look at it, all-match does
     ∷ answers-with S (stored E 1 E E) (row1 3) (firstMatch 1) (at 1 1 2) []
     ∷ refuses S (stored E 1 E E) (row1 3) (allMatch 1 (9 ∷ [])) 6 (9 ∷ [])

@@ -2,11 +2,13 @@
 use Prim.Native.Nat.{ℕ, _+_, _*_, _/_, _%_}
 use mathlib.Core.Bool.{Bool, true, false, not, _&&_, _||_}
 use mathlib.Core.List.{List, foldr}
+use mathlib.Core.Option as Option
+use mathlib.Core.Option.{Option}
 use lib.Dec.{eqb, ltb}
 use lib.Bits.{bitAnd}
 use lib.Count.{trailingZeros}
-use lib.ListN.{getD}
-use Rattle.words.specs.Rules.{any}
+use lib.ListN.{length, getD}
+use Rattle.words.specs.Rules.{any, lowest}
 use Rattle.words.specs.Bits.{bit, rowMask, bitWords}
 use Rattle.words.specs.Seek.{Sought, found, missed, seek}
 use Rattle.geometry.specs.declared.Geometry.{Geometry}
@@ -14,6 +16,7 @@ use Rattle.geometry.specs.Valid.{segmented}
 use Rattle.geometry.specs.Sizes.{sets, rowWords, matchWords, setOf, addressOf, setLength}
 use Rattle.geometry.specs.Stages.{rowsOf}
 use Rattle.reference.specs.Calls.{Answer, refused, at, none}
+use Rattle.reference.specs.Line.{line}
 use Rattle.reference.specs.Tables.{Tables, storeWord}
 
 -- Word j of the joined row of the key, padding bits dropped; and which sets are indicated (rule 8.6).
@@ -27,9 +30,9 @@ indicated g t key s = bit (joined g t key (s / 64)) (s % 64)
 unfoldable pub seekWord : Geometry → Tables → (key : ℕ) → Sought
 seekWord g t key = seek (λ j. not (eqb (joined g t key j) 0)) (rowWords g) 0 0
 
--- The entries of a set, up to one that is the key (rule 8.7). The looks are c (rule 8.10).
-unfoldable pub seekEntry : Geometry → Tables → (key set : ℕ) → Sought
-seekEntry g t key s = seek (λ o. eqb (storeWord t (addressOf g s o)) key) (setLength g s) 0 0
+-- The first entry of a set that is the key, by its offset (rule 8.7).
+unfoldable pub seekEntry : Geometry → Tables → (key set : ℕ) → Option ℕ
+seekEntry g t key s = lowest (setLength g s) (λ o. eqb (storeWord t (addressOf g s o)) key)
 
 -- The first indicated set, where row word j is the first that is not 0 (rule 8.7).
 unfoldable pub lowestSet : Geometry → Tables → (key j : ℕ) → ℕ
@@ -46,11 +49,11 @@ isFalse (hit a w c) = false
 isFalse (nothing w c) = false
 isFalse falseSet = true
 
--- What an indicated set gives. Kind 2 alone asks the store (rule 8.7).
+-- What an indicated set gives. Kind 2 alone asks the store (rule 8.7): it fetches the set's line, whose entries are c (rule 8.10).
 unfoldable pub inSet : Geometry → Tables → (key set words-read : ℕ) → Found
 inSet g t key s w =
     elim (eqb (g .kind) segmented) [
-      | true ↦ elim (seekEntry g t key s) [ found o c ↦ hit (addressOf g s o) w c | missed c ↦ falseSet ]
+      | true ↦ elim (seekEntry g t key s) [ Option.some o ↦ hit (addressOf g s o) w (length (line g (t .store) s)) | Option.none ↦ falseSet ]
       | false ↦ hit s w 0
     ]
 

@@ -10,7 +10,7 @@ use Rattle.words.specs.Rules.{any, count, First, Nowhere}
 use Rattle.words.specs.Bits.{bit, bitWords}
 use Rattle.geometry.specs.declared.Geometry.{Geometry}
 use Rattle.geometry.specs.Valid.{segmented, valid}
-use Rattle.geometry.specs.Sizes.{sets, rowWords, matchWords, setOf, offsetOf, addressOf, setLength}
+use Rattle.geometry.specs.Sizes.{sets, rowWords, matchWords, setOf, addressOf, setLength}
 use Rattle.geometry.specs.Stages.{stages, stageWidth, stage, rows, indicatorWords}
 use Rattle.cover.specs.Image.{cell, belongs, covered}
 use Rattle.cover.specs.Change.{othersCover}
@@ -56,7 +56,7 @@ pub data FirstOnAny (g : Geometry) (t : Tables) (key : ℕ) (answer : Answer) : 
       → answer ≡ at s (s / 64 + 1) 0 → FirstOnAny g t key answer
   equal-entry : (s o : ℕ) → First (sets g) (indicated g t key) s → eqb (g .kind) segmented ≡ true
       → First (setLength g s) (λ o. stores t key (addressOf g s o)) o
-      → answer ≡ at (addressOf g s o) (s / 64 + 1) (o + 1) → FirstOnAny g t key answer
+      → answer ≡ at (addressOf g s o) (s / 64 + 1) (setLength g s) → FirstOnAny g t key answer
   no-equal : (s : ℕ) → First (sets g) (indicated g t key) s → NoEqual g t key s → answer ≡ refused 6 → FirstOnAny g t key answer
 
 -- What an all-match answers: 6 where some indicated set is false (rule 8.9); else every address of an indicated set, in kind 2
@@ -86,7 +86,7 @@ pub record DifferInPadding (g : Geometry) (ind others : List ℕ) : Type 0 where
 -- are the formulas of rule 5.7.
 pub data FirstIs (g : Geometry) (t : Tables) (key : ℕ) (answer : Answer) : Type 0 where
   lowest : (a : ℕ) → First (g .depth) (stores t key) a
-      → answer ≡ at a (a / (64 * g .«set_width») + 1) (cond (eqb (g .kind) segmented) (offsetOf g a + 1) 0)
+      → answer ≡ at a (a / (64 * g .«set_width») + 1) (cond (eqb (g .kind) segmented) (setLength g (setOf g a)) 0)
       → FirstIs g t key answer
   absent : Nowhere (g .depth) (stores t key) → answer ≡ none (rowWords g) 0 → FirstIs g t key answer
 

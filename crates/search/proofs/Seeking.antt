@@ -10,9 +10,12 @@ use lib.Dec.{eqb, ltb}
 use lib.Bits.{bitAnd}
 use lib.Count.{trailingZeros}
 use lib.ListN.{length, getD, drop}
+use borrow.Author.Count.{below-more}
 use borrow.Author.Tests.{ltb-true, ltb-false, eq-eqb, ne-eqb}
+use Rattle.words.specs.Rules.{First, Nowhere}
 use Rattle.words.specs.Bits.{bit, rowMask}
 use Rattle.words.specs.Seek.{Sought, found, seek}
+use Rattle.words.proofs.Rules.{lowest-first, lowest-nowhere}
 use Rattle.words.proofs.Seek.{seek-on, seek-here, seek-over}
 use Rattle.words.proofs.Bits.{bits-equal, bit-out, bit-and, trailing-lowest}
 use Rattle.geometry.specs.declared.Geometry.{Geometry}
@@ -25,7 +28,8 @@ use Rattle.geometry.proofs.Stages.{rows-drop, rows-over}
 use Rattle.geometry.proofs.Bounds.{words-few}
 use Rattle.reference.specs.Tables.{Tables, storeWord}
 use Rattle.reference.specs.Search.{joined, indicated, seekWord, seekEntry, lowestSet, hit, nothing, falseSet, inSet, firstFound}
-use Rattle.reference.proofs.Searched.{indicated-means, joined-lt}
+use Rattle.reference.proofs.Line.{line-length}
+use Rattle.reference.proofs.Searched.{indicated-means, joined-lt, equalAt}
 use Rattle.search.specs.declared.Stop.{Stop}
 use Rattle.search.specs.declared.Stop.the-variants.{Word, Entry, FalseSet}
 use Rattle.calls.specs.Answers.{tables}
@@ -77,13 +81,18 @@ joined-in-sets g t key j b h = go (ltb b 64) refl
 
 -- ---- first-match: its two searches, and what it finds where they stop
 
+-- the entry of set s at offset o, which is address n, is read
+module _ (g : Geometry) (t : Tables) (key s o n v : ℕ) (is : n ≡ addressOf g s o) (read : v ≡ storeWord t n) where
+  pub entry-equal : v ≡ key → equalAt g t key s o ≡ true
+  entry-equal h = rw (← is, ← read) (eq-eqb v key h)
+
+  -- one that is not the key is passed
+  pub entry-passed : (next : ℕ) → Nowhere o (equalAt g t key s) → (v ≡ key → ⊥) → next ≡ o + 1 → Nowhere next (equalAt g t key s)
+  entry-passed next before h e = rw e (below-more _ o before (rw (← is, ← read) (ne-eqb v key h)))
+
 -- the row words from j on, after some looks
 abbrev pub wordsFrom : Geometry → Tables → (key j looks : ℕ) → Sought
 wordsFrom g t key j l = seek (λ i. not (eqb (joined g t key i) 0)) (rowWords g - j) j l
-
--- the entries of a set from offset o on
-abbrev pub entriesFrom : Geometry → Tables → (key set o looks : ℕ) → Sought
-entriesFrom g t key s o l = seek (λ i. eqb (storeWord t (addressOf g s i)) key) (setLength g s - o) o l
 
 -- Row word j is the first that is not 0, and `looks` words were looked at.
 pub record AtWord (g : Geometry) (t : Tables) (key j word looks : ℕ) : Type 0 where
@@ -129,10 +138,6 @@ module _ (g : Geometry) (t : Tables) (key : ℕ) where
             lowest = rw same;
           }
 
-  pub entries-start : (s : ℕ) → entriesFrom g t key s 0 0 ≡ seekEntry g t key s
-  unfolding seekEntry
-  entries-start s = rw sub-zero
-
 pub named : {g : Geometry} {t : Tables} {key j word looks s : ℕ} → AtWord g t key j word looks → s ≡ 64 * j + trailingZeros 64 word → Named g t key s looks
 unfolding firstFound
 named a is = rw is (record { inside = a .set-lt; finds = rw (a .here, firstFound, a .lowest) })
@@ -143,24 +148,23 @@ module _ {g : Geometry} {t : Tables} {key s looks : ℕ} (a : Named g t key s lo
   unfolding inSet
   set-found ok k o n inside is = a .finds ∙ rw (is, alone-address g (facts g ok) s o k inside, k, inSet)
 
-  -- the comparison of the set's entries has come to offset o
-  module _ (o c : ℕ) (come : entriesFrom g t key s o c ≡ seekEntry g t key s) where
-    pub entries-over : eqb (g .kind) segmented ≡ true → setLength g s ≤ o → firstFound g t key ≡ falseSet
-    unfolding inSet
-    entries-over k h = a .finds ∙ rw (k, inSet, sym come ∙ seek-over _ (setLength g s) o c h)
+  -- where the comparison of its entries has passed them all, it is false
+  pub entries-over : eqb (g .kind) segmented ≡ true → (o : ℕ) → setLength g s ≤ o → Nowhere o (equalAt g t key s) → firstFound g t key ≡ falseSet
+  unfolding inSet seekEntry
+  entries-over k o past before =
+      a .finds ∙ rw (k, inSet, seekEntry, lowest-nowhere (setLength g s) (equalAt g t key s) (λ i l. before i (omega arith)))
 
-    -- and the entry there, at address n, is read
-    module _ (inside : o < setLength g s) (n : ℕ) (is : n ≡ addressOf g s o) where
-      pub address-inside : valid g ≡ true → length (t .store) ≡ g .depth → n < length (t .store)
-      address-inside ok long = rw (is, long) (address-lt g (facts g ok) s o (a .inside) inside)
+  module _ (ok : valid g ≡ true) (long : length (t .store) ≡ g .depth) (o : ℕ) (inside : o < setLength g s) (n : ℕ) (is : n ≡ addressOf g s o) where
+    pub address-inside : n < length (t .store)
+    address-inside = rw (is, long) (address-lt g (facts g ok) s o (a .inside) inside)
 
-      pub entries-on : (v : ℕ) → v ≡ storeWord t n → (v ≡ key → ⊥) → entriesFrom g t key s (o + 1) (c + 1) ≡ seekEntry g t key s
-      entries-on v read other = seek-on _ (setLength g s) o c inside (rw (← is, ← read) (ne-eqb v key other)) ∙ come
-
-      pub entry-found : eqb (g .kind) segmented ≡ true → (v : ℕ) → v ≡ storeWord t n → v ≡ key → firstFound g t key ≡ hit n looks (c + 1)
-      unfolding inSet
-      entry-found k v read equal =
-          a .finds ∙ rw (k, inSet, sym come ∙ seek-here _ (setLength g s) o c inside (rw (← is, ← read) (eq-eqb v key equal)), is)
+    -- the first that is equal is the hit, and the whole line is c
+    pub entry-found : eqb (g .kind) segmented ≡ true → Nowhere o (equalAt g t key s) → equalAt g t key s o ≡ true
+        → (c : ℕ) → c ≡ setLength g s → firstFound g t key ≡ hit n looks c
+    unfolding inSet seekEntry
+    entry-found k before equal c whole =
+        let first : First (setLength g s) (equalAt g t key s) o = record { within = inside; here = equal; none-before = before } in
+        a .finds ∙ rw (k, inSet, seekEntry, lowest-first (setLength g s) (equalAt g t key s) o first, is, whole, line-length g (t .store) s ok long (a .inside) .0)
 
 -- What is known where the search of the row words has stopped: at a word that is 0, past the last; at another, in a kind whose
 -- sets are addresses; at an entry; or at a false set.

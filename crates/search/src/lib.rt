@@ -39,14 +39,15 @@ enum Stop {
     // A row word that is not 0, or 0 past the last one; which it is, and the words read. Where a set is an address, that tells
     // the rest.
     Word(u64, RowWord, u16),
-    // The address of an entry that is the key; the words read and the entries compared.
+    // The address of an entry that is the key; the words read, and the entries of the line it stands in.
     Entry(Address, u16, u16),
     // A false set (rule 8.9).
     FalseSet,
 }
 
-// Looks at the words of the joined row until one is not 0; in the segmented kind then at the entries of the first indicated set,
-// until one is the key (rule 8.7). The looks are counted (rule 8.10).
+// Looks at the words of the joined row until one is not 0; in the segmented kind then fetches the line of the first indicated
+// set and compares its entries until one is the key (rule 8.7). Words are counted as they are read, entries as their line is
+// fetched (rule 8.10).
 pub fn first(g: Geometry, sizes: Sizes, store: &[u32], indicators: &[u64], key: u32) -> Answer
     requires { ⌜ Lent g sizes (length (now store)) (length (now indicators)) ⌝ }
     ensures { λ r. ⌜ answerFor r [] ≡ answerOf (firstFound g (tables (now (store .entry)) (now (indicators .entry))) key) ⌝ }
@@ -65,11 +66,10 @@ pub fn first(g: Geometry, sizes: Sizes, store: &[u32], indicators: &[u64], key: 
             }
             let set = SetIndex::lowest(word, j);
             let length = set.length(g);
-            let mut entries_compared: u16 = 0;
+            let entries_compared = length.entries();
             let mut at = Offset::first();
             while at.is_within(length) {
                 let address = set.address(at, g);
-                entries_compared += 1;
                 if address.word(store) == key {
                     break 'words Stop::Entry(address, words_read, entries_compared);
                 }

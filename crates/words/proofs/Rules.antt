@@ -204,3 +204,18 @@ lowest-is (suc n) r = go (lowest-is n r)
     go (at-first i e first) =
         rw e (at-first i refl (record { within = omega (arith, first .within); here = first .here; none-before = first .none-before }))
     go (at-none e before) = rw e (last (r n) refl before)
+
+-- so it gives the first place that has the rule, or none where there is none
+pub lowest-first : (n : ℕ) (r : ℕ → Bool) (i : ℕ) → First n r i → lowest n r ≡ some i
+lowest-first n r i first = go (lowest-is n r)
+  where
+    go : LowestIs n r (lowest n r) → lowest n r ≡ some i
+    go (at-first j e other) = rw (first-unique n r i j first other) e
+    go (at-none e nowhere) = cc (nowhere i (first .within), first .here)
+
+pub lowest-nowhere : (n : ℕ) (r : ℕ → Bool) → Nowhere n r → lowest n r ≡ none
+lowest-nowhere n r nowhere = go (lowest-is n r)
+  where
+    go : LowestIs n r (lowest n r) → lowest n r ≡ none
+    go (at-first j e first) = cc (nowhere j (first .within), first .here)
+    go (at-none e _) = e

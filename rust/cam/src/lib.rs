@@ -70,7 +70,8 @@ impl fmt::Display for Refusal {
 
 impl Error for Refusal {}
 
-/// What a first-match gives. The w of rule 8.10 is `words_read`, its c `entries_compared`.
+/// What a first-match gives. The w of rule 8.10 is `words_read`, its c `entries_compared`: the
+/// set width after a hit in kind 2, else 0.
 #[derive(Clone, Copy, Debug, PartialEq, Eq)]
 pub struct FirstMatch {
     pub address: Option<u32>,

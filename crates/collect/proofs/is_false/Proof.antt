@@ -1,5 +1,6 @@
 -- `collect::is_false` meets its contract. The invariant: no entry before `at` is the key.
 use Prim.Native.Nat.{_-_, _<_}
+use mathlib.Core.List.{[]}
 use native.Mathlib.Omega.{arith}
 use borrow.Author.Needs.{needs}
 use Rattle.words.specs.Rules.{Nowhere}
@@ -7,12 +8,15 @@ use Rattle.words.proofs.Rules.{tested-below, tested-past}
 use Rattle.geometry.specs.Sizes.{setLength}
 use Rattle.geometry.proofs.Facts.{facts}
 use Rattle.geometry.proofs.Places.{length-most, address-lt}
-use Rattle.collect.proofs.FalseSets.{equalAt, other-kind, entry-equal, entry-passed, no-entry}
+use Rattle.reference.proofs.Searched.{equalAt}
+use Rattle.calls.specs.Answers.{tables}
+use Rattle.search.proofs.Seeking.{entry-equal, entry-passed}
+use Rattle.collect.proofs.FalseSets.{other-kind, equal-entry, no-entry}
 use Rattle.collect.proofs.is_false.Statement.{statement}
 use Rattle.collect.proofs.is_false.Tie as tie
 
 abbrev Inv-loop : tie.InvT-loop
-Inv-loop g store set key length at₀ at = Nowhere (at .0) (equalAt g store key (set .0))
+Inv-loop g store set key length at₀ at = Nowhere (at .0) (equalAt g (tables store []) key (set .0))
 
 abbrev μ-loop : tie.MeasureT-loop
 μ-loop g store set key length at₀ at = setLength g (set .0) - at .0
@@ -41,7 +45,9 @@ word-requires c κs =
 returns-2 : tie.Need-returns-2 Inv-loop μ-loop
 returns-2 c =
     let a = c .before .before in
-    entry-equal _ _ _ _ _ _ _ (a .address .ensures) (c .before .word .ensures) (within-at (a .before)) (c .if3 .taken)
+    let x = start (a .before .before .before) .args in
+    equal-entry _ _ _ _ _ (within-at (a .before))
+    (entry-equal (x .g) (tables (x .store .now) []) _ _ _ _ _ (a .address .ensures) (c .before .word .ensures) (c .if3 .taken))
 
 next-requires : tie.Need-next-requires Inv-loop μ-loop
 next-requires c κs =
@@ -54,7 +60,7 @@ loop-again c =
     let a = c .before .before .before in
     let l = a .before .before .before in
     let x = start l .args in
-    entry-passed (x .g) (x .store .now) _ _ _ _ _ (a .address .ensures) (c .before .before .word .ensures) _ (l .loop .inv) (c .before .if3 .left) (c .next .ensures)
+    entry-passed (x .g) (tables (x .store .now) []) _ _ _ _ _ (a .address .ensures) (c .before .before .word .ensures) _ (l .loop .inv) (c .before .if3 .left) (c .next .ensures)
 
 returns-3 : tie.Need-returns-3 Inv-loop μ-loop
 returns-3 c =

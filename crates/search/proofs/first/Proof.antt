@@ -1,33 +1,34 @@
--- `search::first` meets its contract. The invariants: the search of the row words from j on, and the comparison of the
--- entries from an offset on, end as the whole ones do. `stopped` says once what is known where the loop is left.
+-- `search::first` meets its contract. The invariants: the search of the row words from j on ends as the whole one does, and of
+-- the line's entries none before an offset is the key. `stopped` says once what is known where the loop is left.
 use Prim.Native.Nat.{_+_, _-_, _<_, _≤_}
-use mathlib.Core.Path.{_≡_, refl}
+use mathlib.Core.Path.{_≡_, refl, _∙_}
 use mathlib.Core.Bool.{false}
 use mathlib.Core.Logic.{⊎-elim}
 use native.Mathlib.Omega.{arith}
 use lib.Dec.{eqb}
 use borrow.Author.Needs.{needs}
 use borrow.Author.Tests.{eq-eqb, ne-eqb, not-true, not-false}
+use Rattle.words.specs.Rules.{Nowhere}
 use Rattle.words.proofs.Rules.{tested-below, tested-past}
 use Rattle.geometry.specs.Valid.{segmented}
 use Rattle.geometry.specs.Sizes.{rowWords, setLength}
 use Rattle.geometry.proofs.Facts.{facts}
 use Rattle.geometry.proofs.Places.{length-most, length-pos}
 use Rattle.geometry.proofs.Bounds.{words-few}
-use Rattle.reference.specs.Search.{seekWord, seekEntry, answerOf}
+use Rattle.reference.specs.Search.{seekWord, answerOf}
+use Rattle.reference.proofs.Searched.{equalAt}
 use Rattle.calls.specs.Answers.{tables}
-use Rattle.search.proofs.Seeking.{wordsFrom, entriesFrom, AtWord, Named, Stopped, words-start, words-over, words-on, at-word, named, set-found, entries-start, entries-over, address-inside, entries-on, entry-found}
+use Rattle.search.proofs.Seeking.{wordsFrom, AtWord, Named, Stopped, entry-equal, entry-passed, words-start, words-over, words-on, at-word, named, set-found, entries-over, address-inside, entry-found}
 use Rattle.search.proofs.first.Statement.{statement}
 use Rattle.search.proofs.first.Tie as tie
 
 abbrev Inv-loop : tie.InvT-loop
-Inv-loop g store indicators key words-read word set length entries-compared₀ at₀ entries-compared at =
+Inv-loop g store indicators key words-read word set length entries-compared at₀ at =
     let t = tables store indicators in
-    (at .0 ≤ setLength g (set .0)) × (entries-compared ≡ at .0) × Named g t key (set .0) words-read
-    × (entriesFrom g t key (set .0) (at .0) entries-compared ≡ seekEntry g t key (set .0))
+    Named g t key (set .0) words-read × Nowhere (at .0) (equalAt g t key (set .0))
 
 abbrev μ-loop : tie.MeasureT-loop
-μ-loop g store indicators key words-read word set length entries-compared₀ at₀ entries-compared at = setLength g (set .0) - at .0
+μ-loop g store indicators key words-read word set length entries-compared at₀ at = setLength g (set .0) - at .0
 
 abbrev Inv-words : tie.InvT-words
 Inv-words g sizes store indicators key words-read₀ j₀ words-read j =
@@ -49,7 +50,7 @@ abbrev turn : tie.Then2 Inv-loop μ-loop Inv-words μ-words → tie.At-words Inv
 turn c = c .before .before .before .before
 
 abbrev measured : tie.At-loop Inv-loop μ-loop Inv-words μ-words → tie.After-length Inv-loop μ-loop Inv-words μ-words
-measured l = l .before .before
+measured l = l .before .before .before
 
 abbrev outer : tie.At-loop Inv-loop μ-loop Inv-words μ-words → tie.Start Inv-loop μ-loop Inv-words μ-words
 outer l = start (turn (read-at (measured l .before)))
@@ -88,15 +89,15 @@ length-requires c κs = (start (turn (read-at c)) .pre .sized .is-valid, named (
 
 loop-holds : tie.Need-loop-holds Inv-loop μ-loop Inv-words μ-words
 loop-holds c =
-    let b = c .before .before in
-    rw (c .first2 .ensures) (omega arith, refl, named (word-read (read-at b)) (b .lowest .ensures), entries-start _ _ _ _)
+    let b = c .before .before .before in
+    rw (c .first2 .ensures) (named (word-read (read-at b)) (b .lowest .ensures), λ i l. absurd (omega arith))
 
 offset-inside : (c : tie.Then4 Inv-loop μ-loop Inv-words μ-words) → let l = c .before .before in
     l .loop .at .0 < setLength (outer l .args .g) (measured l .before .lowest .result .0)
 offset-inside c = tested-below (c .before .is-within2 .ensures) (measured (c .before .before) .length .ensures) (c .if4 .taken)
 
 address-requires : tie.Need-address-requires Inv-loop μ-loop Inv-words μ-words
-address-requires c κs = let l = c .before .before in (outer l .pre .sized .is-valid, l .loop .inv .2 .inside, offset-inside c)
+address-requires c κs = let l = c .before .before in (outer l .pre .sized .is-valid, l .loop .inv .0 .inside, offset-inside c)
 
 -- and there are few
 offset-few : (c : tie.Then4 Inv-loop μ-loop Inv-words μ-words) → c .before .before .loop .at .0 < 64
@@ -104,23 +105,20 @@ offset-few c =
     let l = c .before .before in
     omega (arith, offset-inside c, length-most _ (facts _ (outer l .pre .sized .is-valid)) (measured l .before .lowest .result .0))
 
-add-entries-compared : tie.Need-add-entries-compared Inv-loop μ-loop Inv-words μ-words
-add-entries-compared c = omega (arith, c .before .before .before .loop .inv .1, offset-few (c .before))
-
 word-requires : tie.Need-word-requires Inv-loop μ-loop Inv-words μ-words
 word-requires c κs =
     let l = c .before .before .before in
-    address-inside (l .loop .inv .2) _ _ (l .loop .inv .3) (offset-inside (c .before)) _ (c .address .ensures) (outer l .pre .sized .is-valid) (outer l .pre .entries)
+    let p = outer l .pre in
+    address-inside (l .loop .inv .0) (p .sized .is-valid) (p .entries) _ (offset-inside (c .before)) _ (c .address .ensures)
 
 loop-again : tie.Need-loop-again Inv-loop μ-loop Inv-words μ-words
 loop-again c =
     let a = c .before .before .before in
     let l = a .before .before .before in
-    rw (c .next .ensures) (
-      omega (arith, offset-inside (a .before)),
-      omega (arith, l .loop .inv .1),
-      l .loop .inv .2,
-      entries-on (l .loop .inv .2) _ _ (l .loop .inv .3) (offset-inside (a .before)) _ (a .address .ensures) _ (c .before .before .word .ensures) (c .before .if5 .left),
+    let x = outer l .args in (
+      l .loop .inv .0,
+      entry-passed (x .g) (tables (x .store .now) (x .indicators .now)) _ _ _ _ _ (a .address .ensures) (c .before .before .word .ensures)
+          _ (l .loop .inv .1) (c .before .if5 .left) (c .next .ensures),
     )
 
 words-again : tie.Need-words-again Inv-loop μ-loop Inv-words μ-words
@@ -131,12 +129,13 @@ words-again c =
     rw (c .next2 .ensures) (omega arith, omega (arith, w .words .inv .1), words-on _ _ _ _ _ (w .words .inv .2) _ inside (j .joined .ensures) (c .before .if2 .left))
 
 -- By the four ways out of the loop: past the last row word, at a word, at an entry, past the entries. A way `w` has the places
--- that it comes through in their order (if1, joined, if2, _, if3, lowest, length, first, loop, is-within, if4, address, word,
--- if5), and at its end what `stop` is.
+-- that it comes through in their order (if1, joined, if2, _, if3, lowest, length, entries, first, loop, is-within, if4, address,
+-- word, if5), and at its end what `stop` is.
 stopped : (c : tie.Joined1 Inv-loop μ-loop Inv-words μ-words) → let a = start (c .before .before) .args in
     Stopped (a .g) (tables (a .store .now) (a .indicators .now)) (a .key) (c .if1 .stop)
 stopped c =
     let k = c .before .before in
+    let x = start k .args in
     let p = start k .pre in
     ⊎-elim
     (λ w. rw (w .2) (
@@ -152,11 +151,11 @@ stopped c =
       ),
     ))
     (⊎-elim
-    (λ w. rw (w .15)
-    (entry-found (w .8 .inv .2) _ _ (w .8 .inv .3) (tested-below (w .9 .ensures) (w .6 .ensures) (w .10 .taken)) _ (w .11 .ensures)
-    (eq-eqb _ _ (w .4 .left)) _ (w .12 .ensures) (w .13 .taken)))
-    (λ w. rw (w .12)
-    (entries-over (w .8 .inv .2) _ _ (w .8 .inv .3) (eq-eqb _ _ (w .4 .left)) (tested-past (w .9 .ensures) (w .6 .ensures) (w .10 .left))))))
+    (λ w. rw (w .16)
+    (entry-found (w .9 .inv .0) (p .sized .is-valid) (p .entries) _ (tested-below (w .10 .ensures) (w .6 .ensures) (w .11 .taken)) _ (w .12 .ensures)
+    (eq-eqb _ _ (w .4 .left)) (w .9 .inv .1) (entry-equal (x .g) (tables (x .store .now) (x .indicators .now)) _ _ _ _ _ (w .12 .ensures) (w .13 .ensures) (w .14 .taken))
+    _ (w .7 .ensures ∙ w .6 .ensures)))
+    (λ w. rw (w .13) (entries-over (w .9 .inv .0) (eq-eqb _ _ (w .4 .left)) _ (tested-past (w .10 .ensures) (w .6 .ensures) (w .11 .left)) (w .9 .inv .1)))))
     (c .if1 .came)
 
 returns : tie.Need-returns Inv-loop μ-loop Inv-words μ-words
@@ -205,8 +204,8 @@ pub first-spec : {M : Type 1} → statement M
 first-spec =
     tie.close
     (tie.spec Inv-loop μ-loop Inv-words μ-words (λ c κs. search needs) words-holds (λ c κs. search needs)
-    (λ c κs. let inside = word-inside c in search needs) add-words-read lowest-requires length-requires (λ c κs. search needs) loop-holds
-    (λ c κs. search needs) address-requires add-entries-compared word-requires (λ c κs. offset-few (c .before .before .before))
+    (λ c κs. let inside = word-inside c in search needs) add-words-read lowest-requires length-requires (λ c κs. search needs)
+    (λ c κs. search needs) loop-holds (λ c κs. search needs) address-requires word-requires (λ c κs. offset-few (c .before .before .before))
     (λ c. omega (arith, offset-inside (c .before .before .before .before), c .next .ensures)) loop-again
     (λ c κs. word-few (c .before .before))
     (λ c. omega (arith, word-inside (c .before .before .before), c .next2 .ensures)) words-again (λ c. search needs) returns lowest-requires-2 (λ c κs. search needs) address-requires-2 (λ c. search needs) (λ c. search needs) returns-2 returns-3 returns-4)

@@ -88,7 +88,7 @@ impl Array {
                     address,
                     words_read: address / (64 * set_width) + 1,
                     entries_compared: match self.geometry.kind {
-                        SEGMENTED => address % set_width + 1,
+                        SEGMENTED => set_width,
                         _ => 0,
                     },
                 };

@@ -53,13 +53,13 @@ fn pattern_zero() -> Script {
 /// The last write leaves the bit of 1, which the other address of the set still has (rule 8.3).
 fn neighbour_holds_it() -> Script {
     let writes = [write(2, 1, None), write(3, 1, None), write(3, 2, Some(1))];
-    on_s("P3", from_clear(writes, [at(1, 2, 1, 1)]))
+    on_s("P3", from_clear(writes, [at(1, 2, 1, 2)]))
 }
 
 /// The row that is set is not cleared afterwards: q is p (rule 8.3).
 fn same_again() -> Script {
     let writes = [write(2, 1, None), write(2, 1, Some(1))];
-    on_s("P4", from_clear(writes, [at(1, 2, 1, 1)]))
+    on_s("P4", from_clear(writes, [at(1, 2, 1, 2)]))
 }
 
 /// The smaller address is found, though it was written last (rule 5.5); both are hits (rule 5.6).
@@ -115,7 +115,7 @@ fn listing() -> Script {
         write(3, 1, None),
         write(2, 1, None),
         write(3, 2, Some(1)),
-        at(1, 2, 1, 1),
+        at(1, 2, 1, 2),
         at(2, 3, 1, 2),
         all(1, &[4], 1),
         erase(2, Some(1)),
@@ -164,7 +164,7 @@ fn address_limits() -> Vec<Script> {
 
 /// The largest pattern of S, and the number behind it (row 4 of rule 9.1).
 fn pattern_limits() -> Vec<Script> {
-    let passes = [write(0, 3, None), at(3, 0, 1, 1), all(3, &[1], 1)];
+    let passes = [write(0, 3, None), at(3, 0, 1, 2), all(3, &[1], 1)];
     let refuses = [
         refused(write_call(0, 4), 4),
         refused(Call::FirstMatch { key: 4 }, 4),

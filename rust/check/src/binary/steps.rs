@@ -129,18 +129,18 @@ fn first_match(g: &Geometry, tables: &Tables, key: u32) -> Answer {
                     entries_compared: 0,
                 };
             }
-            let mut entries_compared = 0;
+            let (mut entries_compared, mut lowest) = (0, None);
             for address in g.addresses_of(set) {
                 entries_compared += 1;
                 if tables.store[address as usize] == key {
-                    return Answer::At {
-                        address,
-                        words_read,
-                        entries_compared,
-                    };
+                    lowest = lowest.or(Some(address));
                 }
             }
-            unreachable!("refusal 6 comes first");
+            return Answer::At {
+                address: lowest.expect("refusal 6 comes first"),
+                words_read,
+                entries_compared,
+            };
         }
     }
     Answer::NoMatch {

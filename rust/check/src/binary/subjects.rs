@@ -21,6 +21,8 @@ const STAGES_MIXED: Subject = "a key whose stages are all stored, but not in one
 pub const CLEARED_LATER: Subject = "a clear of a memory that holds something";
 pub const LATER_WORD: Subject = "a first match after the first word of its row";
 pub const LATER_PLACE: Subject = "a first match past offset 0 of its set";
+const EARLIER_PLACE: Subject = "a first match before the last offset of its set";
+const HELD_AGAIN: Subject = "a first match whose set holds the key again";
 pub const WORDS_OF_HITS: Subject = "hits in more than one match word";
 
 pub const OF_HISTORIES: &[Subject] = &[
@@ -36,6 +38,8 @@ pub const OF_HISTORIES: &[Subject] = &[
     CLEARED_LATER,
     LATER_WORD,
     LATER_PLACE,
+    EARLIER_PLACE,
+    HELD_AGAIN,
     WORDS_OF_HITS,
 ];
 
@@ -70,7 +74,7 @@ pub const OF_SINGLE_CALLS: &[Subject] = &[
 /// What a call of a history meets, from the array before it and the answer.
 pub fn of_history(before: &Array, call: &Call, answer: &Answer) -> Vec<Subject> {
     let (g, entries) = (&before.geometry(), before.entries());
-    let mut met = of_answer(answer);
+    let mut met = Vec::new();
     let mut add = |subject, is_met: bool| met.extend(is_met.then_some(subject));
     match (call, answer) {
         (Call::Clear, _) => {
@@ -87,12 +91,23 @@ pub fn of_history(before: &Array, call: &Call, answer: &Answer) -> Vec<Subject> 
         (&Call::Erase { address }, &Answer::Entry(Some(q))) => {
             add(SHARED_ERASED, neighbour_holds(g, entries, address, q));
         }
+        (&Call::FirstMatch { key }, &Answer::At { address, .. }) => {
+            let (set, place) = (g.set_of(address), address % g.set_width);
+            add(LATER_WORD, set >= 64);
+            add(LATER_PLACE, place > 0);
+            add(EARLIER_PLACE, place + 1 < g.set_width);
+            add(HELD_AGAIN, neighbour_holds(g, entries, address, key));
+        }
         (&Call::FirstMatch { key }, Answer::NoMatch { .. }) => {
             add(ZERO_MISSED, key == 0 && entries.contains(&None));
             add(
                 STAGES_MIXED,
                 g.stages() > 1 && stages_are_stored(g, entries, key),
             );
+        }
+        (_, Answer::Matches { matches, .. }) => {
+            let words = matches.iter().filter(|&&word| word != 0);
+            add(WORDS_OF_HITS, words.count() > 1);
         }
         _ => {}
     }
@@ -123,29 +138,6 @@ fn stages_are_stored(g: &Geometry, entries: &[Option<u32>], key: u32) -> bool {
         let mut patterns = entries.iter().flatten();
         patterns.any(|&p| g.stage_value(p, stage) == sought)
     })
-}
-
-fn of_answer(answer: &Answer) -> Vec<Subject> {
-    let mut met = Vec::new();
-    if let Answer::At {
-        words_read,
-        entries_compared,
-        ..
-    } = answer
-    {
-        if *words_read > 1 {
-            met.push(LATER_WORD);
-        }
-        if *entries_compared > 1 {
-            met.push(LATER_PLACE);
-        }
-    }
-    if let Answer::Matches { matches, .. } = answer {
-        if matches.iter().filter(|&&word| word != 0).count() > 1 {
-            met.push(WORDS_OF_HITS);
-        }
-    }
-    met
 }
 
 /// What a single call meets, from the tables before it and the answer.

@@ -128,7 +128,7 @@ fn indicators_of_one_pattern() -> Vec<Script> {
         clear(),
         write(6, 4, None),
         indicators(&[(4, 2)]),
-        at(4, 6, 1, 3),
+        at(4, 6, 1, 4),
         all(4, &[64], 1),
     ];
     let (transposed, segmented) = (geometry(TRANSPOSED, 8, 2, 1), geometry(SEGMENTED, 8, 3, 4));

@@ -23,7 +23,7 @@ kind 2 depth 8 width 2 set 2
 0 was -
 1 was -
 2 was 1
-3 at 2 w 1 c 1
+3 at 2 w 1 c 2
 4 at 3 w 1 c 2
 5 hits 1 0000000000000004
 6 was 1

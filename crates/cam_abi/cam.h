@@ -87,7 +87,7 @@ uint64_t cam_read(uint32_t kind, uint32_t depth, uint32_t pattern_width, uint32_
 
 /* The lowest address that holds a pattern. The value is the address, or CAM_NONE, + 65,536 times the row words read + 2^32
  * times the entries compared: the three functions below take it apart. Entries are compared in kind 2 alone, a whole set at a
- * time: their number is set_width after a hit there, 0 in the other kinds and where there is none. */
+ * time: their number is set_width after a hit there, 0 in the other kinds and with CAM_NONE. */
 uint64_t cam_first_match(uint32_t kind, uint32_t depth, uint32_t pattern_width, uint32_t set_width,
                          const uint32_t *store, size_t store_len, const uint64_t *indicators, size_t indicators_len,
                          uint32_t pattern);

@@ -31,8 +31,8 @@ module _ (g : Geometry) (store : List ℕ) (key s : ℕ) where
   pub other-kind : (g .kind ≡ segmented → ⊥) → false ≡ setIsFalse
   other-kind h = sym (refuted setIsFalse (λ e. h (eqb-true (g .kind) segmented (false-means g (tables store []) key s 0 .0 e .0))))
 
-  pub equal-entry : (o : ℕ) → o < setLength g s → equalAt g (tables store []) key s o ≡ true → false ≡ setIsFalse
-  equal-entry o within equal =
+  pub holds-key : (o : ℕ) → o < setLength g s → equalAt g (tables store []) key s o ≡ true → false ≡ setIsFalse
+  holds-key o within equal =
       sym (refuted setIsFalse (λ e. false≢true (sym (false-means g (tables store []) key s 0 .0 e .1 o within) ∙ equal)))
 
   pub no-entry : g .kind ≡ segmented → (n : ℕ) → setLength g s ≤ n → Nowhere n (equalAt g (tables store []) key s) → true ≡ setIsFalse

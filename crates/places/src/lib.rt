@@ -27,7 +27,7 @@ pub struct SetIndex(u32);
 // Where an address stands in its set, counted from the set's first.
 pub struct Offset(u32);
 
-// How many addresses a set has. Only a set gives it, and only an offset is tested against it.
+// How many addresses a set has. Only a set gives it, only an offset is tested against it, and only a count is made of it.
 pub struct SetLength(u16);
 
 // Which word of a row: it steps on from the first.

@@ -97,15 +97,15 @@ module _ (g : Geometry) (t : Tables) (key : ℕ) where
   abbrev pub equalAt : (set offset : ℕ) → Bool
   equalAt s o = stores t key (addressOf g s o)
 
-  -- the comparison of a set's entries finds the first that is equal
-  compared : (s : ℕ) → LowestIs (setLength g s) (equalAt s) (seekEntry g t key s)
+  -- the comparison of a set's entries finds the first that is equal, or that none is
+  entries-are : (s : ℕ) → LowestIs (setLength g s) (equalAt s) (seekEntry g t key s)
   unfolding seekEntry
-  compared s = lowest-is (setLength g s) (equalAt s)
+  entries-are s = lowest-is (setLength g s) (equalAt s)
 
   -- a set is false exactly when it has no equal entry
   pub false-means : (s w : ℕ) → (isFalse (inSet g t key s w) ≡ true) ↔ NoEqual g t key s
   unfolding isFalse inSet
-  false-means s w = (there (eqb (g .kind) segmented) refl (compared s), back (compared s))
+  false-means s w = (there (eqb (g .kind) segmented) refl (entries-are s), back (entries-are s))
     where
       there : (b : Bool) → eqb (g .kind) segmented ≡ b → LowestIs (setLength g s) (equalAt s) (seekEntry g t key s)
           → isFalse (inSet g t key s w) ≡ true → NoEqual g t key s
@@ -117,11 +117,11 @@ module _ (g : Geometry) (t : Tables) (key : ℕ) where
       back (at-first o q first) (kind, nowhere) = absurd (false≢true (sym (nowhere o (first .within)) ∙ first .here))
       back (at-none q _) (kind, nowhere) = rw (kind, inSet, q)
 
-  -- and where it has one, the whole line was fetched
+  -- what the first indicated set answers; after a hit in kind 2 its whole line was fetched
   in-set : valid g ≡ true → length (t .store) ≡ g .depth → (s w : ℕ) → First (sets g) (indicated g t key) s → w ≡ s / 64 + 1
       → FirstOnAny g t key (answerOf (inSet g t key s w))
   unfolding inSet answerOf
-  in-set ok long s w first looks = go (eqb (g .kind) segmented) refl (compared s)
+  in-set ok long s w first looks = go (eqb (g .kind) segmented) refl (entries-are s)
     where
       go : (b : Bool) → eqb (g .kind) segmented ≡ b → LowestIs (setLength g s) (equalAt s) (seekEntry g t key s)
           → FirstOnAny g t key (answerOf (inSet g t key s w))

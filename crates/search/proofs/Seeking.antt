@@ -81,12 +81,12 @@ joined-in-sets g t key j b h = go (ltb b 64) refl
 
 -- ---- first-match: its two searches, and what it finds where they stop
 
--- the entry of set s at offset o, which is address n, is read
+-- the entry of set s at offset o, which is address n, is read (`collect::is_false` cites this too): it is the key
 module _ (g : Geometry) (t : Tables) (key s o n v : ℕ) (is : n ≡ addressOf g s o) (read : v ≡ storeWord t n) where
   pub entry-equal : v ≡ key → equalAt g t key s o ≡ true
   entry-equal h = rw (← is, ← read) (eq-eqb v key h)
 
-  -- one that is not the key is passed
+  -- or it is passed
   pub entry-passed : (next : ℕ) → Nowhere o (equalAt g t key s) → (v ≡ key → ⊥) → next ≡ o + 1 → Nowhere next (equalAt g t key s)
   entry-passed next before h e = rw e (below-more _ o before (rw (← is, ← read) (ne-eqb v key h)))
 

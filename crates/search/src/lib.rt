@@ -39,7 +39,7 @@ enum Stop {
     // A row word that is not 0, or 0 past the last one; which it is, and the words read. Where a set is an address, that tells
     // the rest.
     Word(u64, RowWord, u16),
-    // The address of an entry that is the key; the words read, and the entries of the line it stands in.
+    // The address of an entry that is the key; the words read, and how many entries its line has.
     Entry(Address, u16, u16),
     // A false set (rule 8.9).
     FalseSet,

@@ -11,7 +11,7 @@ use Rattle.geometry.proofs.Places.{length-most, address-lt}
 use Rattle.reference.proofs.Searched.{equalAt}
 use Rattle.calls.specs.Answers.{tables}
 use Rattle.search.proofs.Seeking.{entry-equal, entry-passed}
-use Rattle.collect.proofs.FalseSets.{other-kind, equal-entry, no-entry}
+use Rattle.collect.proofs.FalseSets.{other-kind, holds-key, no-entry}
 use Rattle.collect.proofs.is_false.Statement.{statement}
 use Rattle.collect.proofs.is_false.Tie as tie
 
@@ -46,7 +46,7 @@ returns-2 : tie.Need-returns-2 Inv-loop μ-loop
 returns-2 c =
     let a = c .before .before in
     let x = start (a .before .before .before) .args in
-    equal-entry _ _ _ _ _ (within-at (a .before))
+    holds-key _ _ _ _ _ (within-at (a .before))
     (entry-equal (x .g) (tables (x .store .now) []) _ _ _ _ _ (a .address .ensures) (c .before .word .ensures) (c .if3 .taken))
 
 next-requires : tie.Need-next-requires Inv-loop μ-loop

@@ -21,8 +21,8 @@ const STAGES_MIXED: Subject = "a key whose stages are all stored, but not in one
 pub const CLEARED_LATER: Subject = "a clear of a memory that holds something";
 pub const LATER_WORD: Subject = "a first match after the first word of its row";
 pub const LATER_PLACE: Subject = "a first match past offset 0 of its set";
-const EARLIER_PLACE: Subject = "a first match before the last offset of its set";
-const HELD_AGAIN: Subject = "a first match whose set holds the key again";
+pub const EARLIER_PLACE: Subject = "a first match before the last offset of its set";
+pub const HELD_AGAIN: Subject = "a first match whose set holds the key again";
 pub const WORDS_OF_HITS: Subject = "hits in more than one match word";
 
 pub const OF_HISTORIES: &[Subject] = &[
@@ -53,6 +53,7 @@ const PADDING_SOUGHT: Subject = "padding bits in the row of a key";
 const PADDING_WRITTEN: Subject = "padding bits in the row of a written pattern";
 const FALSE_THEN_TRUE: Subject = "a false set before one that holds the key";
 const TRUE_THEN_FALSE: Subject = "a false set after one that holds the key";
+const TWICE_IN_LINE: Subject = "a first indicated set that holds the key twice";
 const BIT_MISSING: Subject = "an entry replaced whose bit is 0";
 const BIT_TOO_MANY: Subject = "a pattern written whose bit is 1 though the set lacks it";
 
@@ -67,6 +68,7 @@ pub const OF_SINGLE_CALLS: &[Subject] = &[
     PADDING_WRITTEN,
     FALSE_THEN_TRUE,
     TRUE_THEN_FALSE,
+    TWICE_IN_LINE,
     BIT_MISSING,
     BIT_TOO_MANY,
 ];
@@ -215,22 +217,35 @@ fn of_match(g: &Geometry, tables: &Tables, key: u32) -> Vec<Subject> {
         met.push(PADDING_SOUGHT);
     }
     if g.kind == SEGMENTED {
-        let indicated: Vec<bool> = (0..g.sets())
+        let indicated: Vec<usize> = (0..g.sets())
             .filter(|&set| in_every_row(g, &tables.indicators, key, set))
-            .map(|set| set_holds(g, tables, set, key))
+            .map(|set| holders(g, tables, set, key))
             .collect();
-        match indicated.first() {
-            Some(true) if indicated.contains(&false) => met.push(TRUE_THEN_FALSE),
-            Some(false) if indicated.contains(&true) => met.push(FALSE_THEN_TRUE),
-            _ => {}
+        if let Some(&first) = indicated.first() {
+            if first > 1 {
+                met.push(TWICE_IN_LINE);
+            }
+            if indicated.iter().any(|&other| (other > 0) != (first > 0)) {
+                met.push(if first > 0 {
+                    TRUE_THEN_FALSE
+                } else {
+                    FALSE_THEN_TRUE
+                });
+            }
         }
     }
     met
 }
 
 fn set_holds(g: &Geometry, tables: &Tables, set: usize, p: u32) -> bool {
+    holders(g, tables, set, p) > 0
+}
+
+/// How many addresses of a set have the pattern.
+fn holders(g: &Geometry, tables: &Tables, set: usize, p: u32) -> usize {
     g.addresses_of(set)
-        .any(|address| tables.store[address as usize] == p)
+        .filter(|&address| tables.store[address as usize] == p)
+        .count()
 }
 
 /// In kind 1 padding bits matter where they stand in the rows of all stages.

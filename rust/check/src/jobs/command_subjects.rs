@@ -3,7 +3,8 @@
 use crate::binary::answer::Answer;
 use crate::binary::call::Call;
 use crate::binary::subjects::{
-    ADDRESS_AND_PATTERN, CLEARED_LATER, LATER_PLACE, LATER_WORD, WORDS_OF_HITS,
+    ADDRESS_AND_PATTERN, CLEARED_LATER, EARLIER_PLACE, HELD_AGAIN, LATER_PLACE, LATER_WORD,
+    WORDS_OF_HITS,
 };
 use crate::geometry::Geometry;
 use crate::jobs::job::Command;
@@ -54,6 +55,8 @@ pub const OF_COMMANDS: &[Subject] = &[
     CLEARED_LATER,
     LATER_WORD,
     LATER_PLACE,
+    EARLIER_PLACE,
+    HELD_AGAIN,
     WORDS_OF_HITS,
 ];
 

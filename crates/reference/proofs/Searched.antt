@@ -24,7 +24,7 @@ use Rattle.geometry.specs.Stages.{stages, rowOf, rowsOf, indicatorWords}
 use Rattle.geometry.proofs.Facts.{Facts, facts}
 use Rattle.geometry.proofs.Places.{sets-most, matches-most}
 use Rattle.cover.specs.Image.{cell}
-use Rattle.reference.specs.Calls.{firstMatch, allMatch, none, refused, matched}
+use Rattle.reference.specs.Calls.{firstMatch, allMatch, refused, matched}
 use Rattle.reference.specs.Tables.{Tables, storeWord}
 use Rattle.reference.specs.Search.{joined, indicated, seekWord, seekEntry, lowestSet, Found, hit, nothing, falseSet, isFalse, inSet, firstFound, anyIsFalse, answerOf, taken, takenWords}
 use Rattle.reference.specs.Steps.{badMatches, ownRefusals, refusals, accepted, outcome, step}
@@ -151,9 +151,9 @@ pub first-any : (g : Geometry) → valid g ≡ true → (t : Tables) → length 
 unfolding firstFound answerOf
 first-any g ok t long key = go (seekWord g t key) refl
   where
-    go : (r : Sought) → seekWord g t key ≡ r → FirstOnAny g t key (answerOf (elim r [ found j w ↦ inSet g t key (lowestSet g t key j) w | missed w ↦ nothing w 0 ]))
-    go (missed w) e = let p = words-missed g (facts g ok) t key w e in no-set (p .0) (ap (λ n. none n 0) (p .1))
-    go (found j w) e = let p = words-found g t key j w e in in-set g t key ok long (lowestSet g t key j) w (p .0) (p .1)
+    go : (r : Sought) → seekWord g t key ≡ r → FirstOnAny g t key (answerOf (firstFound g t key))
+    go (missed w) e = let p = words-missed g (facts g ok) t key w e in no-set (p .0) (rw (firstFound, e, p .1))
+    go (found j w) e = let p = words-found g t key j w e in rw (firstFound, e) (in-set g t key ok long (lowestSet g t key j) w (p .0) (p .1))
 
 -- ---- row 6 of the table
 
@@ -162,17 +162,14 @@ pub first-false-means : (g : Geometry) → Facts g → (t : Tables) (key : ℕ)
 unfolding firstFound isFalse
 first-false-means g f t key = (there (seekWord g t key) refl, back (seekWord g t key) refl)
   where
-    searched : Sought → Found
-    searched r = elim r [ found j w ↦ inSet g t key (lowestSet g t key j) w | missed w ↦ nothing w 0 ]
+    there : (r : Sought) → seekWord g t key ≡ r → isFalse (firstFound g t key) ≡ true → (s : ℕ) × First (sets g) (indicated g t key) s × NoEqual g t key s
+    there (found j w) e h = (lowestSet g t key j, words-found g t key j w e .0, false-means g t key (lowestSet g t key j) w .0 (rw (firstFound, e) at h))
+    there (missed w) e h = absurd (false≢true (rw (firstFound, e) at h))
 
-    there : (r : Sought) → seekWord g t key ≡ r → isFalse (searched r) ≡ true → (s : ℕ) × First (sets g) (indicated g t key) s × NoEqual g t key s
-    there (found j w) e h = (lowestSet g t key j, words-found g t key j w e .0, false-means g t key (lowestSet g t key j) w .0 h)
-    there (missed w) e h = absurd (false≢true h)
-
-    back : (r : Sought) → seekWord g t key ≡ r → (s : ℕ) × First (sets g) (indicated g t key) s × NoEqual g t key s → isFalse (searched r) ≡ true
+    back : (r : Sought) → seekWord g t key ≡ r → (s : ℕ) × First (sets g) (indicated g t key) s × NoEqual g t key s → isFalse (firstFound g t key) ≡ true
     back (found j w) e (s, first, no-equal) =
         let same = first-unique (sets g) (indicated g t key) s (lowestSet g t key j) first (words-found g t key j w e .0) in
-        false-means g t key (lowestSet g t key j) w .1 (rw same at no-equal)
+        rw (firstFound, e) (false-means g t key (lowestSet g t key j) w .1 (rw same at no-equal))
     back (missed w) e (s, first, no-equal) = absurd (false≢true (sym (words-missed g f t key w e .0 s (first .within)) ∙ first .here))
 
 pub any-false-means : (g : Geometry) (t : Tables) (key : ℕ)

@@ -4,8 +4,8 @@ use mathlib.Core.Path.{ap₂, _∙_}
 use Rattle.geometry.specs.declared.Geometry.{Geometry}
 use Rattle.reference.specs.Tables.{Tables}
 use Rattle.reference.proofs.Refused.{matches-after}
-use Rattle.memory.specs.Runs.{Run, ChainsFollow, ChainsTell}
-use Rattle.memory.proofs.CodeHistory.{Steps, made-steps, chain-follows, chains-tell}
+use Rattle.memory.specs.Runs.{Run, ClearsBegin, ChainsFollow, ChainsBegin, ChainsRefuse, ChainsTell}
+use Rattle.memory.proofs.CodeHistory.{Steps, made-steps, chain-clear-begins, chain-follows, chain-begins, chain-refuses, chains-tell}
 use Rattle.cam_abi.specs.Codes.{told}
 use Rattle.cam_abi.specs.Histories.{Called, by-number, made}
 use Rattle.cam_abi.proofs.Told.{number-tells}
@@ -16,8 +16,18 @@ called-steps g t x (by-number c n after m k) =
     record { answer = same; tables = k .tables; matches = k .matches ∙ rw same (matches-after g t c) }
 called-steps g t x (made y m) = made-steps g t y m
 
-pub c-history : (g : Geometry) → ChainsFollow g (Called g)
-c-history g = chain-follows g (called-steps g)
+module _ (g : Geometry) where
+  pub c-clear-begins : ClearsBegin g (Called g)
+  c-clear-begins = chain-clear-begins g (called-steps g)
 
-pub c-equal-tables : (g : Geometry) → ChainsTell g (Called g)
-c-equal-tables g = chains-tell g (called-steps g)
+  pub c-history : ChainsFollow g (Called g)
+  c-history = chain-follows g (called-steps g)
+
+  pub c-history-begins : ChainsBegin g (Called g)
+  c-history-begins = chain-begins g (called-steps g)
+
+  pub c-later-numbers : ChainsRefuse g (Called g)
+  c-later-numbers = chain-refuses g (called-steps g)
+
+  pub c-equal-tables : ChainsTell g (Called g)
+  c-equal-tables = chains-tell g (called-steps g)

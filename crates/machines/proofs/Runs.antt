@@ -1,7 +1,7 @@
 -- The inductions over histories and chains. What each call keeps or tells, a history does; and events that are each a call of a
 -- machine are its run.
 use mathlib.Core.Path.{_≡_, refl, ap, ap₂, _∙_}
-use mathlib.Core.List.{List, [], _∷_, map, zipWith}
+use mathlib.Core.List.{List, [], _∷_, _++_, map, zipWith}
 use Rattle.machines.specs.Machine.{Machine, run, after}
 use Rattle.machines.specs.Chain.{Chain, ended, next, last}
 
@@ -38,6 +38,18 @@ pub run-each : {S C L A B D : Type 0} (m : Machine S C L) (f : L → A) (h : B �
 unfolding run zipWith
 run-each m f h p q tells s [] = refl
 run-each {A = A} m f h p q tells s (c ∷ cs) = ap₂ (λ (x : A) (xs : List A). x ∷ xs) (tells s c) (run-each m f h p q tells (nextState m s c) cs)
+
+-- a history in two parts: the second goes on in the state that the first left
+module _ {S C L : Type 0} (m : Machine S C L) where
+  pub run-parts : (s : S) (cs ds : List C) → run m s (cs ++ ds) ≡ run m s cs ++ run m (after m s cs) ds
+  unfolding run after
+  run-parts s [] ds = refl
+  run-parts s (c ∷ cs) ds = ap (λ (os : List L). m .step s c ∷ os) (run-parts (nextState m s c) cs ds)
+
+  pub after-parts : (s : S) (cs ds : List C) → after m s (cs ++ ds) ≡ after m (after m s cs) ds
+  unfolding after
+  after-parts s [] ds = refl
+  after-parts s (c ∷ cs) ds = after-parts (nextState m s c) cs ds
 
 -- `call` is the call of an event, `answer` what came back and `state` what it left.
 module _ {S C L X A : Type 0} (m : Machine S C L) (seen : L → A) (call : X → C) (answer : X → A) (state : X → S) where

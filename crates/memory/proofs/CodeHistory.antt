@@ -2,17 +2,16 @@
 -- from which a run is known to be its step (`Steps`), and then for what the calls ensure.
 use Prim.Native.Nat.{ℕ}
 use mathlib.Core.Path.{_≡_, sym, ap, _∙_}
-use mathlib.Core.List.{List, _∷_, map}
-use Rattle.machines.specs.Chain.{next}
+use mathlib.Core.List.{List, map}
 use Rattle.machines.proofs.Runs.{Are, chain-is, chain-each}
 use Rattle.geometry.specs.declared.Geometry.{Geometry}
-use Rattle.reference.specs.Calls.{Call, Answer, clear, cleared, matchesAfter}
+use Rattle.reference.specs.Calls.{Call, Answer, matchesAfter}
 use Rattle.reference.specs.Tables.{Tables}
 use Rattle.reference.specs.Steps.{Outcome, step}
 use Rattle.reference.specs.History.{onTables}
 use Rattle.reference.proofs.Refused.{matches-after}
-use Rattle.reference.proofs.History.{history, equal-tables}
-use Rattle.memory.specs.Runs.{Run, Made, by-call, by-perform, Chain, ChainsFollow, ChainsTell}
+use Rattle.reference.proofs.History.{history, history-begins, later-numbers, equal-tables, clear-begins}
+use Rattle.memory.specs.Runs.{Run, Made, by-call, by-perform, Chain, lastTables, ClearsBegin, ChainsFollow, ChainsBegin, ChainsRefuse, ChainsTell}
 
 -- A run on the tables t is the step of its call, with the match word in its answer or else as lent.
 pub record Steps (g : Geometry) (t : Tables) (x : Run) : Type 0 where
@@ -38,33 +37,51 @@ made-steps g t x (by-perform call r after m m′ p) = record {
   matches = p .matches ∙ ap (λ (a : Answer). matchesAfter a m) (sym (p .answer));
 }
 
--- The first run is a clear that was accepted; the tables before it are any.
+-- An accepted clear begins, and a chain that begins with the tables of an array is a history that does.
 module _ {Link : Tables → Run → Type 0} (g : Geometry) (steps : (t : Tables) (x : Run) → Link t x → Steps g t x) where
+  pub chain-clear-begins : ClearsBegin g Link
+  chain-clear-begins t x link is ok =
+      let s = steps t x link in
+      rw (s .tables, is) (clear-begins g t (sym (rw is at (s .answer)) ∙ ok))
+
   ran : (t : Tables) (xs : List Run) → Chain Link t xs
       → Are (onTables g) (λ (o : Outcome). o .answer) (λ (x : Run). x .call) (λ (x : Run). x .answer) (λ (x : Run). x .tables) t xs
   ran = chain-is (onTables g) _ _ _ _ (λ t x link. let s = steps t x link in record { same-answer = s .answer; same-state = s .tables })
 
-  first-accepted : (t : Tables) (x : Run) (xs : List Run) → Chain Link t (x ∷ xs) → x .call ≡ clear → x .answer ≡ cleared → step g t clear .answer ≡ cleared
-  first-accepted t x xs (next link rest) is ok = sym (rw is at (steps t x link .answer)) ∙ ok
-
   pub chain-follows : ChainsFollow g Link
-  chain-follows t x xs chain is ok =
-      let h = history g t (map (λ (x : Run). x .call) xs) (first-accepted t x xs chain is ok) in
-      let r = ran t (x ∷ xs) chain in
+  chain-follows t es b xs chain =
+      let h = history g t es b (map (λ (x : Run). x .call) xs) in
+      let r = ran t xs chain in
       record {
-        answers = r .answers ∙ rw is (h .answers);
-        matches = chain-each _ _ (λ t x link. steps t x link .matches) t (x ∷ xs) chain;
-        tables = r .ends ∙ rw is (h .tables);
+        answers = r .answers ∙ h .answers;
+        matches = chain-each _ _ (λ t x link. steps t x link .matches) t xs chain;
+        tables = r .ends ∙ h .tables;
       }
 
+  pub chain-begins : ChainsBegin g Link
+  chain-begins t es b xs chain = rw (ran t xs chain .ends) (history-begins g t es b (map (λ (x : Run). x .call) xs))
+
+  pub chain-refuses : ChainsRefuse g Link
+  chain-refuses t es b xs chain x link n e =
+      later-numbers g t es b (map (λ (x : Run). x .call) xs) (x .call) n (rw (← ran t xs chain .ends) (sym (steps (lastTables t xs) x link .answer) ∙ e))
+
   pub chains-tell : ChainsTell g Link
-  chains-tell t u x y xs ys a b isx okx isy oky =
-      rw (ran t (x ∷ xs) a .ends, ran u (y ∷ ys) b .ends, isx, isy)
-      (equal-tables g t u (map (λ (x : Run). x .call) xs) (map (λ (x : Run). x .call) ys) (first-accepted t x xs a isx okx) (first-accepted u y ys b isy oky))
+  chains-tell t u es fs b c xs ys p q =
+      rw (ran t xs p .ends, ran u ys q .ends) (equal-tables g t u es fs b c (map (λ (x : Run). x .call) xs) (map (λ (x : Run). x .call) ys))
 
 -- The six calls and `perform`, in any mixture.
-pub code-history : (g : Geometry) → ChainsFollow g (Made g)
-code-history g = chain-follows g (made-steps g)
+module _ (g : Geometry) where
+  pub code-clear-begins : ClearsBegin g (Made g)
+  code-clear-begins = chain-clear-begins g (made-steps g)
 
-pub code-equal-tables : (g : Geometry) → ChainsTell g (Made g)
-code-equal-tables g = chains-tell g (made-steps g)
+  pub code-history : ChainsFollow g (Made g)
+  code-history = chain-follows g (made-steps g)
+
+  pub code-history-begins : ChainsBegin g (Made g)
+  code-history-begins = chain-begins g (made-steps g)
+
+  pub code-later-numbers : ChainsRefuse g (Made g)
+  code-later-numbers = chain-refuses g (made-steps g)
+
+  pub code-equal-tables : ChainsTell g (Made g)
+  code-equal-tables = chains-tell g (made-steps g)

@@ -68,7 +68,7 @@ module _ (g : Geometry) (ok : valid g ≡ true) (es : Array) (sound : Sound g es
   held-is : (key : ℕ) → key < patterns g → (a : ℕ) → eqb (storeWord (tablesOf g es) a) key ≡ holding es key a
   held-is key small a = sym (holds-word g f key small (storeWord (tablesOf g es) a)) ∙ ap (λ e. holds e key) (store-entry g f es sound a)
 
-  no-bad-entry : (a : ℕ) → badEntry g (tablesOf g es) a ≡ false
+  pub no-bad-entry : (a : ℕ) → badEntry g (tablesOf g es) a ≡ false
   unfolding wordOf
   no-bad-entry a = entry-passes g (tablesOf g es) a .1 (rw (store-word g f es sound a) (go (entryAt es a) (sound .fits a)))
     where

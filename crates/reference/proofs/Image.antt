@@ -3,7 +3,7 @@
 use Prim.Native.Nat.{ℕ, zero, suc, _<_}
 use mathlib.Core.Path.{_≡_, refl, ap, _∙_, fun-ext}
 use mathlib.Core.List.{List, [], _∷_, map}
-use lib.ListN.{length, set, List·getD-map}
+use lib.ListN.{set, length-map, List·getD-map}
 use lib.Seq.{getD-set-same, getD-set-other}
 use Rattle.geometry.specs.declared.Geometry.{Geometry}
 use Rattle.geometry.proofs.Facts.{Facts}
@@ -18,10 +18,6 @@ use Rattle.reference.specs.Statements.{Mirrors}
 use Rattle.reference.specs.Update.{replaced}
 use Rattle.reference.proofs.Entries.{entry-word}
 use Rattle.reference.proofs.Replaced.{covers-lt}
-
-length-map : (es : Array) → length (map wordOf es) ≡ length es
-length-map [] = refl
-length-map (e ∷ es) = ap suc (length-map es)
 
 map-set : (es : Array) (a : ℕ) (e : Entry) → set (map wordOf es) a (wordOf e) ≡ map wordOf (set es a e)
 map-set [] a e = refl
@@ -42,7 +38,7 @@ module _ (g : Geometry) (f : Facts g) (es : Array) (sound : Sound g es) where
 
   pub image-mirrors : Mirrors g (tablesOf g es)
   image-mirrors = record {
-    entries = unfold tablesOf in length-map es ∙ sound .long;
+    entries = unfold tablesOf in length-map es wordOf ∙ sound .long;
     words = unfold tablesOf in image-long g (arrayCover g es);
     bits = λ r s hr hs. rw same-cover (unfold tablesOf in image-bit g f (arrayCover g es) r s hr hs);
   }

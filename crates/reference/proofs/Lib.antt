@@ -11,6 +11,8 @@ pub mod Emptied
 pub mod Hits
 pub mod Agreement
 pub mod History
+pub mod Resume
+pub mod Reached
 pub mod Paper
 pub mod Line
 pub mod Padding

@@ -1,8 +1,11 @@
--- The cases P1 to P10 (docs/MEMORY.md, section 15) as rows of one table, single calls on damaged tables as rows of another, and
--- tables that do or do not mirror their store as rows of a third. proofs/Cases.antt computes all three.
+-- The cases P1 to P10 (docs/MEMORY.md, section 15) as rows of one table, single calls on damaged tables as rows of another,
+-- tables that do or do not mirror their store as rows of a third, and what resumes come to as rows of a fourth. proofs/Cases.antt
+-- computes all four.
 use Prim.Native.Nat.{ℕ, _/_, _%_}
 use mathlib.Core.Bool.{Bool, true, false, cond, not, _&&_}
 use mathlib.Core.List.{List, [], _∷_}
+use mathlib.Core.Option as Option
+use mathlib.Core.Option.{Option}
 use lib.Dec.{eqb}
 use lib.ListN.{length, set, replicate}
 use Rattle.words.specs.Rules.{any}
@@ -10,8 +13,9 @@ use Rattle.geometry.specs.declared.Geometry.{Geometry}
 use Rattle.geometry.specs.Sizes.{sets}
 use Rattle.geometry.specs.Stages.{rows, indicatorWords}
 use Rattle.cover.specs.Image.{cell, covered}
-use Rattle.reference.specs.Entry.{empty, pattern}
+use Rattle.reference.specs.Entry.{Entry, empty, pattern}
 use Rattle.reference.specs.Calls.{Call, clear, write, erase, read, firstMatch, allMatch, Answer, refused, cleared, held, at, none, matched}
+use Rattle.reference.specs.Array.{Array}
 use Rattle.reference.specs.Tables.{Tables}
 use Rattle.reference.specs.Image.{storeCover}
 use Rattle.reference.specs.Steps.{Outcome, clearTables}
@@ -224,4 +228,76 @@ mirrors =
     ∷ mirror deep deepStore (0 ∷ 2 ∷ 0 ∷ 3 ∷ []) true
     ∷ mirror deep deepStore (0 ∷ 0 ∷ 9223372036854775808 ∷ 1 ∷ []) false
     ∷ mirror deep deepStore (0 ∷ 0 ∷ 0 ∷ 2 ∷ []) false
+    ∷ []
+
+-- ---- what a resume comes to
+
+-- Tables, the number with which a resume refuses them or none, and the array that the store shows.
+pub record Board : Type 0 where
+  pub geometry : Geometry
+  pub tables : Tables
+  pub refusal : Option ℕ
+  pub shows : Array
+
+abbrev pub board : Geometry → (store indicators : List ℕ) → Option ℕ → Array → Board
+board g st ind n es = record { geometry = g; tables = record { store = st; indicators = ind }; refusal = n; shows = es }
+
+abbrev pub onBoard : Geometry → (store indicators : List ℕ) → Array → Board
+onBoard g st ind es = board g st ind Option.none es
+
+abbrev pub offBoard : Geometry → (store indicators : List ℕ) → (number : ℕ) → Array → Board
+offBoard g st ind n es = board g st ind (Option.some n) es
+
+-- Eight entries of S: the four given, and empty ones.
+abbrev pub four : (a b c d : Entry) → Array
+four a b c d = a ∷ b ∷ c ∷ d ∷ empty ∷ empty ∷ empty ∷ empty ∷ []
+
+-- Two addresses and four patterns, each pattern with rows of one word.
+abbrev pub pair : (kind : ℕ) → Geometry
+pair k = record { kind = k; depth = 2; «pattern_width» = 2; «set_width» = 1 }
+
+-- K's indicators for 1 and 514, but for word 1, which is given.
+abbrev pub twoStages : (first : ℕ) → List ℕ
+twoStages w = set (set (set (set (replicate 514 0) 1 w) 2 2) 512 1) 513 2
+
+unfoldable pub boards : List Board
+boards =
+    -- an empty store, one pattern, one pattern twice in a set, two in one set, one in two sets
+    onBoard S (stored E E E E) zeros (four empty empty empty empty)
+    ∷ onBoard S (stored E 1 E E) (row1 1) (four empty (pattern 1) empty empty)
+    ∷ onBoard S (stored 1 1 E E) (row1 1) (four (pattern 1) (pattern 1) empty empty)
+    ∷ onBoard S (stored E E 1 2) (0 ∷ 2 ∷ 2 ∷ 0 ∷ []) (four empty empty (pattern 1) (pattern 2))
+    ∷ onBoard S (stored 3 E E 3) (0 ∷ 0 ∷ 0 ∷ 3 ∷ []) (four (pattern 3) empty empty (pattern 3))
+    -- a stale bit, in a row of a stored pattern and in another; a missing one; one in another set and in another row
+    ∷ offBoard S (stored E 1 E E) (row1 3) 10 (four empty (pattern 1) empty empty)
+    ∷ offBoard S (stored E 1 E E) (1 ∷ 1 ∷ 0 ∷ 0 ∷ []) 10 (four empty (pattern 1) empty empty)
+    ∷ offBoard S (stored E 1 E E) zeros 10 (four empty (pattern 1) empty empty)
+    ∷ offBoard S (stored E 1 E E) (row1 2) 10 (four empty (pattern 1) empty empty)
+    ∷ offBoard S (stored E 1 E E) (0 ∷ 0 ∷ 1 ∷ 0 ∷ []) 10 (four empty (pattern 1) empty empty)
+    -- a padding bit, the lowest and the highest, in the first and in the last word
+    ∷ offBoard S (stored E 1 E E) (row1 17) 10 (four empty (pattern 1) empty empty)
+    ∷ offBoard S (stored E 1 E E) (9223372036854775808 ∷ 1 ∷ 0 ∷ 0 ∷ []) 10 (four empty (pattern 1) empty empty)
+    ∷ offBoard S (stored E 1 E E) (0 ∷ 1 ∷ 0 ∷ 16 ∷ []) 10 (four empty (pattern 1) empty empty)
+    -- the first word that is no pattern, and the last that is not empty: 10, never 5; at the first and the last address
+    ∷ offBoard S (stored 4 1 E E) (row1 1) 10 (four empty (pattern 1) empty empty)
+    ∷ offBoard S (stored 4294967294 1 E E) (row1 1) 10 (four empty (pattern 1) empty empty)
+    ∷ offBoard S (E ∷ E ∷ E ∷ E ∷ E ∷ E ∷ E ∷ 4 ∷ []) zeros 10 (four empty empty empty empty)
+    -- a pattern at the last address, with its bit and without
+    ∷ onBoard S (E ∷ E ∷ E ∷ E ∷ E ∷ E ∷ E ∷ 3 ∷ []) (0 ∷ 0 ∷ 0 ∷ 8 ∷ []) (empty ∷ empty ∷ empty ∷ empty ∷ empty ∷ empty ∷ empty ∷ pattern 3 ∷ [])
+    ∷ offBoard S (E ∷ E ∷ E ∷ E ∷ E ∷ E ∷ E ∷ 3 ∷ []) zeros 10 (empty ∷ empty ∷ empty ∷ empty ∷ empty ∷ empty ∷ empty ∷ pattern 3 ∷ [])
+    -- 1 before 2, 2 before 10, for either table
+    ∷ offBoard noKind (4 ∷ []) [] 1 (empty ∷ [])
+    ∷ offBoard S (4 ∷ []) zeros 2 (empty ∷ [])
+    ∷ offBoard S (stored 4 E E E) (1 ∷ []) 2 (four empty empty empty empty)
+    -- rows of two words, whose second has one bit that is a set's
+    ∷ onBoard deep deepStore (0 ∷ 0 ∷ 0 ∷ 1 ∷ []) (set (replicate 65 empty) 64 (pattern 1))
+    ∷ offBoard deep deepStore (0 ∷ 0 ∷ 0 ∷ 3 ∷ []) 10 (set (replicate 65 empty) 64 (pattern 1))
+    ∷ offBoard deep deepStore (0 ∷ 0 ∷ 1 ∷ 1 ∷ []) 10 (set (replicate 65 empty) 64 (pattern 1))
+    -- kinds 0 and 1 with one stage
+    ∷ onBoard (pair 0) (2 ∷ 0 ∷ []) (2 ∷ 0 ∷ 1 ∷ 0 ∷ []) (pattern 2 ∷ pattern 0 ∷ [])
+    ∷ onBoard (pair 1) (2 ∷ 0 ∷ []) (2 ∷ 0 ∷ 1 ∷ 0 ∷ []) (pattern 2 ∷ pattern 0 ∷ [])
+    ∷ offBoard (pair 1) (2 ∷ 0 ∷ []) (3 ∷ 0 ∷ 1 ∷ 0 ∷ []) 10 (pattern 2 ∷ pattern 0 ∷ [])
+    -- two stages: a bit that is missing and one that is stale
+    ∷ offBoard K (1 ∷ 514 ∷ []) (twoStages 0) 10 (pattern 1 ∷ pattern 514 ∷ [])
+    ∷ offBoard K (1 ∷ 514 ∷ []) (twoStages 3) 10 (pattern 1 ∷ pattern 514 ∷ [])
     ∷ []

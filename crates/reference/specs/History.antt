@@ -5,7 +5,7 @@ use Rattle.machines.specs.Machine as machine
 use Rattle.machines.specs.Machine.{Machine}
 use Rattle.geometry.specs.declared.Geometry.{Geometry}
 use Rattle.reference.specs.Calls.{Call, Answer, shape}
-use Rattle.reference.specs.Array.{Array, emptied, ArrayOutcome, arrayStep}
+use Rattle.reference.specs.Array.{Array, ArrayOutcome, arrayStep}
 use Rattle.reference.specs.Tables.{Tables}
 use Rattle.reference.specs.Steps.{Outcome, step}
 
@@ -32,6 +32,6 @@ arrayAnswers g es cs = map (λ (o : ArrayOutcome). o .answer) (machine.run (onAr
 abbrev pub arrayAfter : Geometry → Array → List (Call ℕ) → Array
 arrayAfter g = machine.after (onArray g)
 
--- The array of a history that begins with an accepted clear: it begins empty (rule 10.2).
-abbrev pub arrayOf : Geometry → History → Array
-arrayOf g cs = arrayAfter g (emptied g) (map shape cs)
+-- The array that a history leaves which begins as es (rule 10.2).
+abbrev pub arrayOf : Geometry → Array → History → Array
+arrayOf g es cs = arrayAfter g es (map shape cs)

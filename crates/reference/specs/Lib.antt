@@ -7,6 +7,7 @@ pub mod Image
 pub mod Update
 pub mod Search
 pub mod Steps
+pub mod Resume
 pub mod History
 pub mod Statements
 pub mod Line

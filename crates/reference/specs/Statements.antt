@@ -3,29 +3,34 @@
 use Prim.Native.Nat.{ℕ, _+_, _*_, _/_, _%_, _^_, _<_}
 use mathlib.Core.Path.{_≡_}
 use mathlib.Core.Bool.{Bool, true, false, cond, not, _&&_}
-use mathlib.Core.List.{List, map, zipWith}
+use mathlib.Core.List.{List, _++_, map, zipWith}
+use mathlib.Core.Logic.{_⊎_}
+use mathlib.Core.Option as Option
 use lib.Dec.{eqb}
 use lib.ListN.{length, getD}
 use Rattle.words.specs.Rules.{any, count, First, Nowhere}
 use Rattle.words.specs.Bits.{bit, bitWords}
 use Rattle.geometry.specs.declared.Geometry.{Geometry}
 use Rattle.geometry.specs.Valid.{segmented, valid}
-use Rattle.geometry.specs.Sizes.{sets, rowWords, matchWords, setOf, addressOf, setLength}
+use Rattle.geometry.specs.Sizes.{patterns, sets, rowWords, matchWords, setOf, addressOf, setLength}
 use Rattle.geometry.specs.Stages.{stages, stageWidth, stage, rows, indicatorWords}
 use Rattle.cover.specs.Image.{cell, belongs, covered}
 use Rattle.cover.specs.Change.{othersCover}
-use Rattle.reference.specs.Entry.{Entry, empty, pattern, wordOf, holds}
-use Rattle.reference.specs.Calls.{Answer, refused, at, none, matched, shape, lent, matchesAfter}
+use Rattle.reference.specs.Entry.{Entry, empty, pattern, emptyWord, wordOf, holds}
+use Rattle.reference.specs.Calls.{Call, clear, Answer, refused, cleared, at, none, matched, shape, lent, matchesAfter}
 use Rattle.reference.specs.Array.{Array, Sound}
 use Rattle.reference.specs.Tables.{Tables, storeWord, storeEntry}
 use Rattle.reference.specs.Image.{covers, storeCover, tablesOf}
 use Rattle.reference.specs.Search.{indicated, taken}
-use Rattle.reference.specs.Steps.{Outcome}
-use Rattle.reference.specs.History.{History, run, after, arrayAnswers, arrayAfter}
+use Rattle.reference.specs.Steps.{badMatches, Outcome, step}
+use Rattle.reference.specs.Resume.{shownImage, resumeStep}
+use Rattle.reference.specs.History.{History, run, after, arrayAnswers, arrayOf}
 
 -- ---- demand 3
 
--- The tables are those of a sound array of a valid geometry: what a history begins with, and each call keeps.
+-- The tables are those of a sound array of a valid geometry: what a history begins with, and each call keeps. An accepted clear
+-- leaves those of the empty array (rule 10.2), and those that a resume accepts are the tables of the array that the store shows
+-- (rule 10.6).
 pub record Begun (g : Geometry) (t : Tables) (es : Array) : Type 0 where
   pub is-valid : valid g ≡ true
   pub sound : Sound g es
@@ -37,7 +42,34 @@ pub record Begun (g : Geometry) (t : Tables) (es : Array) : Type 0 where
 pub record Follows (g : Geometry) (es : Array) (t : Tables) (cs : History) : Type 0 where
   pub answers : map (λ (o : Outcome). o .answer) (run g t cs) ≡ arrayAnswers g es (map shape cs)
   pub matches : map (λ (o : Outcome). o .matches) (run g t cs) ≡ zipWith matchesAfter (map (λ (o : Outcome). o .answer) (run g t cs)) (map lent cs)
-  pub tables : after g t cs ≡ tablesOf g (arrayAfter g es (map shape cs))
+  pub tables : after g t cs ≡ tablesOf g (arrayOf g es cs)
+
+-- The numbers with which a call of such a history can be refused (rule 10.5).
+abbrev pub Later : Geometry → Call (List ℕ) → ℕ → Type 0
+Later g c n = (n ≡ 3) ⊎ ((n ≡ 4) ⊎ ((n ≡ 2) × (badMatches g c ≡ true)))
+
+-- Tables with which a history can go on: every entry is empty or a pattern, and the indicators are the image of the array that the
+-- store shows, padding bits included (rule 8.12).
+pub record Resumable (g : Geometry) (t : Tables) : Type 0 where
+  pub is-valid : valid g ≡ true
+  pub long : length (t .store) ≡ g .depth
+  pub words : length (t .indicators) ≡ indicatorWords g
+  pub entries : (a : ℕ) → a < g .depth → (storeWord t a ≡ emptyWord) ⊎ (storeWord t a < patterns g)
+  pub image : t .indicators ≡ shownImage g t
+
+-- Tables that a history leaves which begins with an accepted clear, of whatever tables.
+pub record Reached (g : Geometry) (t : Tables) : Type 0 where
+  pub before : Tables
+  pub accepted : step g before clear .answer ≡ cleared
+  pub calls : History
+  pub leaves : after g (step g before clear .tables) calls ≡ t
+
+-- Some calls, a resume, and then others, which go on with the tables that the resume leaves: it is accepted, and all calls leave what
+-- they leave with no resume between them (rule 10.7).
+pub record CutInTwo (g : Geometry) (t : Tables) (cs ds : History) : Type 0 where
+  pub accepted : resumeStep g (after g t cs) .refusal ≡ Option.none
+  pub outcomes : run g t (cs ++ ds) ≡ run g t cs ++ run g (resumeStep g (after g t cs) .tables) ds
+  pub tables : after g t (cs ++ ds) ≡ after g (resumeStep g (after g t cs) .tables) ds
 
 -- ---- the searches, on any tables
 

@@ -4,7 +4,7 @@ use mathlib.Core.List.{List, [], _∷_}
 use Rattle.reference.specs.Entry.{empty, pattern}
 use Rattle.reference.specs.Calls as calls
 use Rattle.reference.specs.Calls.{clear, write, erase, read, firstMatch, allMatch, refused, cleared, held, at, none, matched}
-use Rattle.checks.specs.declared.Refusal.the-variants.{BadGeometry, BadLengths, BadAddress, BadPattern, BadEntry, FalseSet}
+use Rattle.checks.specs.declared.Refusal.the-variants.{BadGeometry, BadLengths, BadAddress, BadPattern, BadEntry, FalseSet, BadTables}
 use Rattle.places.specs.declared.Address.{Address}
 use Rattle.calls.specs.declared.Entry.the-variants.{Empty, Pattern}
 use Rattle.calls.specs.declared.Call.{Call}
@@ -52,6 +52,7 @@ answerExamples =
     ∷ Refused BadPattern means refused 4
     ∷ Refused BadEntry means refused 5
     ∷ Refused FalseSet means refused 6
+    ∷ Refused BadTables means refused 10
     ∷ Cleared means cleared
     ∷ Held Empty means held empty
     ∷ Held (Pattern 5) means held (pattern 5)

@@ -6,10 +6,13 @@ use Rattle.geometry.specs.declared.Geometry.{Geometry}
 use Rattle.reference.specs.Calls.{Call}
 use Rattle.reference.specs.Tables.{Tables}
 use Rattle.reference.specs.Steps.{Outcome, step}
+use Rattle.reference.specs.Resume.{Resumption, resumeStep}
 use Rattle.calls.specs.declared.Answer.{Answer}
 use Rattle.calls.specs.declared.Answer.the-variants.{Refused, Cleared, Held, At, None, Matched}
 use Rattle.calls.specs.Answers.{answerFor, tables, left}
-use Rattle.cam_abi.specs.Codes.{codeOf, Coded}
+use Rattle.resume.specs.declared.Resumed.{Resumed}
+use Rattle.resume.specs.Resumed.{refusalFor, gone}
+use Rattle.cam_abi.specs.Codes.{codeOf, resumeCode, Coded, ResumeCoded}
 
 -- The number does not depend on the match word.
 code-any : (r : Answer) (m : List ℕ) → codeOf (answerFor r []) ≡ codeOf (answerFor r m)
@@ -29,3 +32,9 @@ coded {m = m} h d r same-geometry same-call e number =
       tables = ap (λ (o : Outcome). o .tables) e;
       matches = ap (λ (o : Outcome). o .matches) e;
     })
+
+-- The same of a resume.
+pub resume-coded : {g : Geometry} {s i : List ℕ} {n : ℕ} (h : Geometry) (r : Resumed) → h ≡ g → gone r s i ≡ resumeStep h (tables s i)
+    → n ≡ resumeCode (refusalFor r) → ResumeCoded g n (tables s i) (tables s i)
+resume-coded h r same e number =
+    rw (← same) (record { number = number ∙ ap (λ (o : Resumption). resumeCode (o .refusal)) e; tables = ap (λ (o : Resumption). o .tables) e })

@@ -1,14 +1,16 @@
 -- Demand 3 of the exported functions: what a number gives back is the step's answer (`number-tells`), so a chain of them, or of
 -- them and the calls of `memory`, follows the plain array.
-use mathlib.Core.Path.{ap₂, _∙_}
+use mathlib.Core.Path.{sym, ap, ap₂, _∙_}
 use Rattle.geometry.specs.declared.Geometry.{Geometry}
 use Rattle.reference.specs.Tables.{Tables}
+use Rattle.reference.specs.Resume.{resumeStep}
 use Rattle.reference.proofs.Refused.{matches-after}
-use Rattle.memory.specs.Runs.{Run, ClearsBegin, ChainsFollow, ChainsBegin, ChainsRefuse, ChainsTell}
-use Rattle.memory.proofs.CodeHistory.{Steps, made-steps, chain-clear-begins, chain-follows, chain-begins, chain-refuses, chains-tell}
-use Rattle.cam_abi.specs.Codes.{told}
-use Rattle.cam_abi.specs.Histories.{Called, by-number, made}
-use Rattle.cam_abi.proofs.Told.{number-tells}
+use Rattle.reference.proofs.Resume.{resume-begins, begun-resumes, begun-shows}
+use Rattle.memory.specs.Runs.{Run, Made, lastTables, ClearsBegin, ChainsFollow, ChainsBegin, ChainsRefuse, ChainsTell}
+use Rattle.memory.proofs.CodeHistory.{Steps, made-steps, chain-clear-begins, chain-follows, chain-begins, chain-refuses, chains-tell, code-history-begins}
+use Rattle.cam_abi.specs.Codes.{told, resumeTold}
+use Rattle.cam_abi.specs.Histories.{Called, by-number, made, ResumesBegin, ChainsResume}
+use Rattle.cam_abi.proofs.Told.{number-tells, resume-tells}
 
 called-steps : (g : Geometry) (t : Tables) (x : Run) → Called g t x → Steps g t x
 called-steps g t x (by-number c n after m k) =
@@ -31,3 +33,21 @@ module _ (g : Geometry) where
 
   pub c-equal-tables : ChainsTell g (Called g)
   c-equal-tables = chains-tell g (called-steps g)
+
+  pub c-resume-begins : ResumesBegin g
+  unfolding resumeStep
+  c-resume-begins t after n k ok = rw (k .tables) (resume-begins g t (sym (resume-tells g t) ∙ ap resumeTold (sym (k .number)) ∙ ok))
+
+-- after a chain of any links
+chain-resumes : {Link : Tables → Run → Type 0} (g : Geometry) → ChainsBegin g Link → ChainsResume g Link
+unfolding resumeStep
+chain-resumes g begins t es b xs chain after n k =
+    let c = begins t es b xs chain in
+    (ap resumeTold (k .number) ∙ resume-tells g (lastTables t xs) ∙ begun-resumes g _ _ c, k .tables, rw (k .tables) (begun-shows g _ _ c))
+
+module _ (g : Geometry) where
+  pub code-resume-after : ChainsResume g (Made g)
+  code-resume-after = chain-resumes g (code-history-begins g)
+
+  pub c-resume-after : ChainsResume g (Called g)
+  c-resume-after = chain-resumes g (c-history-begins g)

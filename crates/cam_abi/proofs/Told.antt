@@ -23,10 +23,11 @@ use Rattle.reference.specs.Tables.{Tables, storeWord, storeEntry}
 use Rattle.reference.specs.Search.{takenWords}
 use Rattle.reference.specs.Statements.{FirstOnAny, no-set, set-alone, equal-entry, no-equal}
 use Rattle.reference.specs.Steps.{ownRefusals, refusals, accepted, outcome, step}
+use Rattle.reference.specs.Resume.{resumeRefusals, resumeStep}
 use Rattle.reference.proofs.Entries.{word-fits}
 use Rattle.reference.proofs.Refused.{passed-valid, passed-lengths}
 use Rattle.reference.proofs.Searched.{first-any}
-use Rattle.cam_abi.specs.Codes.{codeOf, entryIn, placeIn, valueTold, told}
+use Rattle.cam_abi.specs.Codes.{codeOf, entryIn, placeIn, valueTold, told, resumeCode, resumeTold}
 
 -- an accepted number is 256 and its value
 value-told : (c : Call (List ℕ)) (n v : ℕ) (m : List ℕ) → n ≡ 256 + v → told c n m ≡ valueTold c v m
@@ -102,3 +103,13 @@ number-tells g t c = go (firstRefusal (refusals g t c)) refl
     go Option.none e =
         let p = passes (refusals g t c) e in
         accepted-told g (passed-valid g t c p) t (passed-lengths g t c p .0) c
+
+-- of a resume too
+pub resume-tells : (g : Geometry) (t : Tables) → resumeTold (resumeCode (resumeStep g t .refusal)) ≡ resumeStep g t .refusal
+unfolding resumeStep resumeRefusals resumeTold
+resume-tells g t = go (firstRefusal (resumeRefusals g t)) refl
+  where
+    go : (r : Option ℕ) → firstRefusal (resumeRefusals g t) ≡ r → resumeTold (resumeCode r) ≡ r
+    go Option.none e = refl
+    go (Option.some n) e =
+        rw (lt-ltb n 256 (given-says (λ n. n < 256) (resumeRefusals g t) n (λ b. omega arith, (λ b. omega arith, (λ b. omega arith, tt))) e))

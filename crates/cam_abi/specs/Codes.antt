@@ -4,6 +4,8 @@ use Prim.Native.Nat.{ℕ, _+_, _-_, _*_, _/_, _%_}
 use mathlib.Core.Path.{_≡_}
 use mathlib.Core.Bool.{cond}
 use mathlib.Core.List.{List}
+use mathlib.Core.Option as Option
+use mathlib.Core.Option.{Option, some}
 use lib.Dec.{eqb, ltb}
 use Rattle.geometry.specs.declared.Geometry.{Geometry}
 use Rattle.geometry.specs.Valid.{valid}
@@ -11,6 +13,7 @@ use Rattle.reference.specs.Entry.{Entry, empty, pattern, emptyWord, wordOf}
 use Rattle.reference.specs.Calls.{Call, clear, write, erase, read, firstMatch, allMatch, Answer, refused, cleared, held, at, none, matched}
 use Rattle.reference.specs.Tables.{Tables}
 use Rattle.reference.specs.Steps.{step}
+use Rattle.reference.specs.Resume.{resumeStep}
 
 -- A refusal's number, which is below 256, or 256 and a value (rules 12.1 to 12.3).
 abbrev pub codeOf : Answer → ℕ
@@ -41,6 +44,14 @@ valueTold (allMatch key lent) v m = matched m v
 unfoldable pub told : Call (List ℕ) → (number : ℕ) → (matches : List ℕ) → Answer
 told c n m = cond (ltb n 256) (refused n) (valueTold c (n - 256) m)
 
+-- The number for a resume, by its refusal: that one's, or 256 where there is none (rule 12.5); and the refusal that a number gives back.
+abbrev pub resumeCode : Option ℕ → ℕ
+resumeCode (some n) = n
+resumeCode Option.none = 256
+
+unfoldable pub resumeTold : (number : ℕ) → Option ℕ
+resumeTold n = cond (ltb n 256) (some n) Option.none
+
 abbrev pub four : (kind depth width set : ℕ) → Geometry
 four k d p w = record { kind = k; depth = d; «pattern_width» = p; «set_width» = w }
 
@@ -53,3 +64,8 @@ pub record Coded (g : Geometry) (c : Call (List ℕ)) (r : ℕ) (before after : 
   pub answer : r ≡ codeOf (step g before c .answer)
   pub tables : after ≡ step g before c .tables
   pub matches : now ≡ step g before c .matches
+
+-- The number is that of what the resume comes to, and the tables are those that it leaves.
+pub record ResumeCoded (g : Geometry) (r : ℕ) (before after : Tables) : Type 0 where
+  pub number : r ≡ resumeCode (resumeStep g before .refusal)
+  pub tables : after ≡ resumeStep g before .tables

@@ -1,8 +1,9 @@
--- Answers with the numbers that stand for them and geometries with those for their lengths, as rows of two tables, and a geometry
--- of four numbers that differ.
--- proofs/Examples.antt computes them.
+-- Answers and what resumes come to with the numbers that stand for them, and geometries with those for their lengths, as rows of
+-- three tables, and a geometry of four numbers that differ. proofs/Examples.antt computes them.
 use Prim.Native.Nat.{ℕ}
 use mathlib.Core.List.{List, [], _∷_}
+use mathlib.Core.Option as Option
+use mathlib.Core.Option.{Option, some}
 use Rattle.geometry.specs.declared.Geometry.{Geometry}
 use Rattle.reference.specs.Entry.{empty, pattern}
 use Rattle.reference.specs.Calls.{Answer, refused, cleared, held, at, none, matched}
@@ -27,6 +28,18 @@ codes =
     ∷ none 2 3 has 12885098751
     ∷ matched (8 ∷ 9 ∷ []) 2 has 258
     ∷ []
+
+-- What a resume comes to, with its number.
+pub record ResumeExample : Type 0 where
+  pub refusal : Option ℕ
+  pub number : ℕ
+
+abbrev pub _comes-to_ : Option ℕ → ℕ → ResumeExample
+refusal comes-to number = record { refusal = refusal; number = number }
+
+infix 68 _comes-to_
+unfoldable pub resumeCodes : List ResumeExample
+resumeCodes = Option.none comes-to 256 ∷ some 1 comes-to 1 ∷ some 2 comes-to 2 ∷ some 10 comes-to 10 ∷ []
 
 unfoldable pub oneToFour : Geometry
 oneToFour = record { kind = 1; depth = 2; «pattern_width» = 3; «set_width» = 4 }

@@ -1,17 +1,19 @@
-// The six calls for callers in C and Rust, and the lengths that they ask for. A geometry is passed as its four numbers, a slice
-// as its pointer and its length in elements. What comes back is one number: below 256 it is that of a refusal, which changed
+// The six calls and resume for callers in C and Rust, and the lengths that they ask for. A geometry is passed as its four numbers, a
+// slice as its pointer and its length in elements. What comes back is one number: below 256 it is that of a refusal, which changed
 // nothing; else it is 256 and the value that stands at each function.
 use calls::Answer;
 use checks::Checked;
 use geometry::Geometry;
 use places::Address;
+use resume::Resumed;
 ghost use mathlib.Core.Path.{_≡_};
 ghost use mathlib.Core.List.{[]};
 ghost use Rattle.geometry.specs.Sizes.{matchWords};
 ghost use Rattle.geometry.specs.Stages.{indicatorWords};
 ghost use Rattle.reference.specs.Calls.{clear, write, erase, read, firstMatch, allMatch};
 ghost use Rattle.calls.specs.Answers.{answerFor, tables};
-ghost use Rattle.cam_abi.specs.Codes.{codeOf, sizeCode, four, Coded};
+ghost use Rattle.resume.specs.Resumed.{refusalFor};
+ghost use Rattle.cam_abi.specs.Codes.{codeOf, resumeCode, sizeCode, four, Coded, ResumeCoded};
 
 // The geometry of the four numbers.
 fn four(kind: u32, depth: u32, pattern_width: u32, set_width: u32) -> Geometry
@@ -48,6 +50,16 @@ fn code(answer: Answer) -> u64
             entries_compared,
         } => 256 + 65535 + 65536 * words_read as u64 + 0x1_0000_0000 * entries_compared as u64,
         Answer::Matched { hits } => 256 + hits as u64,
+    }
+}
+
+// The number of an answer to a resume.
+fn resume_code(answer: Resumed) -> u64
+    ensures { λ r. ⌜ r ≡ resumeCode (refusalFor answer) ⌝ }
+{
+    match answer {
+        Resumed::Accepted => 256,
+        Resumed::Refused(why) => why.number() as u64,
     }
 }
 
@@ -94,6 +106,22 @@ pub extern "C" fn cam_match_words(kind: u32, depth: u32, pattern_width: u32, set
     ensures { λ r. ⌜ r ≡ sizeCode (four kind depth «pattern_width» «set_width») matchWords ⌝ }
 {
     lengths_of(four(kind, depth, pattern_width, set_width)).matches
+}
+
+// Whether a history can go on with the tables. The value is 0.
+#[no_mangle]
+pub extern "C" fn cam_resume(
+    kind: u32,
+    depth: u32,
+    pattern_width: u32,
+    set_width: u32,
+    store: &[u32],
+    indicators: &[u64],
+) -> u64
+    ensures { λ r. ⌜ ResumeCoded (four kind depth «pattern_width» «set_width») r (tables (now (store .entry)) (now (indicators .entry))) (tables (now (store .entry)) (now (indicators .entry))) ⌝ }
+{
+    let g = four(kind, depth, pattern_width, set_width);
+    resume_code(resume::resume(g, store, indicators))
 }
 
 // Empties every address. The value is 0.

@@ -9,11 +9,11 @@ use Rattle.geometry.specs.Stages.{tablesFit}
 use Rattle.sizes.specs.declared.Sizes.{Sizes}
 use Rattle.sizes.specs.SizesOf.{sizesOf}
 use Rattle.checks.specs.declared.Refusal.{Refusal}
-use Rattle.checks.specs.declared.Refusal.the-variants.{BadGeometry, BadLengths, BadAddress, BadPattern, BadEntry, FalseSet}
+use Rattle.checks.specs.declared.Refusal.the-variants.{BadGeometry, BadLengths, BadAddress, BadPattern, BadEntry, FalseSet, BadTables}
 use Rattle.checks.specs.declared.Checked.{Checked}
 use Rattle.checks.specs.declared.Checked.the-variants.{Accepted, Refused}
 
--- The numbers of rule 9.1.
+-- The numbers of rules 9.1 and 9.3.
 abbrev pub numberOf : Refusal → ℕ
 numberOf BadGeometry = 1
 numberOf BadLengths = 2
@@ -21,6 +21,7 @@ numberOf BadAddress = 3
 numberOf BadPattern = 4
 numberOf BadEntry = 5
 numberOf FalseSet = 6
+numberOf BadTables = 10
 
 -- The sizes in what a check gave. A refusal has none, and no row is tested after it: there they are zeros.
 unfoldable pub sizesIn : Checked → Sizes

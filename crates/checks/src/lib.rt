@@ -5,7 +5,7 @@ use sizes::Sizes;
 ghost use mathlib.Core.Path.{_≡_};
 ghost use Rattle.checks.specs.Checks.{numberOf, checked, checkedTables, checkedMatches, sizesIn, andRow, andPattern};
 
-// Why a call stops: a row of the table.
+// Why a call stops: a row of its table.
 pub enum Refusal {
     BadGeometry,
     BadLengths,
@@ -13,10 +13,11 @@ pub enum Refusal {
     BadPattern,
     BadEntry,
     FalseSet,
+    BadTables,
 }
 
 impl Refusal {
-    // Its number (rule 9.1).
+    // Its number (rules 9.1 and 9.3).
     pub fn number(self) -> u32
         ensures { λ r. ⌜ r ≡ numberOf self ⌝ }
     {
@@ -27,6 +28,7 @@ impl Refusal {
             Refusal::BadPattern => 4,
             Refusal::BadEntry => 5,
             Refusal::FalseSet => 6,
+            Refusal::BadTables => 10,
         }
     }
 }

@@ -7,7 +7,7 @@ use lib.Dec.{eqb}
 use lib.Count.{trailingZeros}
 use Rattle.words.specs.Rules.{First}
 use Rattle.words.specs.Bits.{bit, clearBit}
-use Rattle.words.proofs.Bits.{bit-clear, clear-lt, trailing-lowest}
+use Rattle.words.proofs.Bits.{bit-clear, trailing-lowest, lowest-turn}
 use Rattle.geometry.specs.declared.Geometry.{Geometry}
 use Rattle.geometry.specs.Valid.{valid}
 use Rattle.geometry.specs.Sizes.{sets}
@@ -38,16 +38,14 @@ module _ (g : Geometry) (j rest : ℕ) (left : Left g j rest) (some : rest ≡ 0
 
   pub turn : (s : ℕ) → s ≡ 64 * j + trailingZeros 64 rest → Turn g j rest s
   turn s e =
-      let bit-of : s % 64 ≡ trailingZeros 64 rest = omega (arith, lowest .within) in
-      let here : bit rest (s % 64) ≡ true = rw bit-of (lowest .here) in
-      let less = clear-lt rest (s % 64) here in
+      let t = lowest-turn j rest s (left .small) some e in
       record {
-        here = here;
-        whole = rw bit-of e;
+        here = t .here;
+        whole = t .whole;
         set-lt = rw e (left .inside (trailingZeros 64 rest) (lowest .here));
-        less = less;
+        less = t .less;
         after = record {
-          small = omega (arith, left .small);
+          small = omega (arith, left .small, t .less);
           inside = λ i h. left .inside i (and-eq-true-iff (not (eqb i (s % 64))) (bit rest i) .0 (rw bit-clear at h) .1);
         };
       }

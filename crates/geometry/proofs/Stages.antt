@@ -1,6 +1,6 @@
 -- The stages of a pattern: each is below 2^(its width), together they determine the pattern, and rows of different
 -- stages differ.
-use Prim.Native.Nat.{ℕ, zero, suc, _+_, _-_, _*_, _/_, _^_, _<_, _≤_}
+use Prim.Native.Nat.{ℕ, zero, suc, _+_, _-_, _*_, _/_, _%_, _^_, _<_, _≤_}
 use mathlib.Core.Path.{_≡_, refl, sym, ap, _∙_}
 use mathlib.Core.Bool.{Bool, true, false, cond}
 use mathlib.Core.List.{[], _∷_}
@@ -78,6 +78,19 @@ module _ (g : Geometry) (f : Facts g) where
       go false t =
           let e : stages g - 1 ≡ k = omega (arith, ltb-false (k + 1) (stages g) t) in
           rw e (omega arith)
+
+  -- and every row of the indicators is one of a stage
+  pub row-split : (r : ℕ) → r < rows g → (k : ℕ) × (x : ℕ) × (k < stages g) × (x < 2 ^ stageWidth g k) × (r ≡ 512 * k + x)
+  unfolding rows
+  row-split r h = go (ltb (r / 512 + 1) (stages g)) refl
+    where
+      go : (b : Bool) → ltb (r / 512 + 1) (stages g) ≡ b → (k : ℕ) × (x : ℕ) × (k < stages g) × (x < 2 ^ stageWidth g k) × (r ≡ 512 * k + x)
+      go true t =
+          let below = ltb-true (r / 512 + 1) (stages g) t in
+          (r / 512, r % 512, omega arith, rw (width-inner (r / 512) below) (omega arith), omega arith)
+      go false t =
+          let past = ltb-false (r / 512 + 1) (stages g) t in
+          (stages g - 1, r - 512 * (stages g - 1), omega (arith, stages-pos), omega arith, omega arith)
 
   -- a value of a stage that is not the last is below 512, so a row number tells its stage and its row there
   stage-le : (k l x y : ℕ) → l < stages g → x < 2 ^ stageWidth g k → 512 * k + x ≡ 512 * l + y → l ≤ k

@@ -12,7 +12,7 @@ ghost use mathlib.Core.Bool.{true};
 ghost use lib.Dec.{eqb, leb, ltb};
 ghost use lib.Count.{trailingZeros};
 ghost use lib.ListN.{length, getD, set};
-ghost use Rattle.words.specs.Bits.{setBit, clearBit, changeBit, rowMask};
+ghost use Rattle.words.specs.Bits.{bit, setBit, clearBit, changeBit, rowMask};
 ghost use Rattle.geometry.specs.Valid.{valid};
 ghost use Rattle.geometry.specs.Sizes.{sets, setOf, offsetOf, addressOf, setLength};
 ghost use Rattle.reference.specs.Entry.{emptyWord};
@@ -39,6 +39,21 @@ impl Address {
         ensures { λ r. ⌜ r .0 ≡ number ⌝ }
     {
         Address(number)
+    }
+
+    // The first of all addresses, and the next one: a walk over the whole store. It shows what is asked: it steps on from an
+    // address of the geometry, and there are 4,096 at most.
+    pub fn first() -> Self
+        ensures { λ r. ⌜ r .0 ≡ 0 ⌝ }
+    {
+        Address(0)
+    }
+
+    pub fn next(self) -> Self
+        requires { ⌜ self .0 < 4096 ⌝ }
+        ensures { λ r. ⌜ r .0 ≡ self .0 + 1 ⌝ }
+    {
+        Address(self.0 + 1)
     }
 
     // Its number, for an answer.
@@ -168,6 +183,15 @@ impl SetIndex {
     {
         let at = sizes.row_words * row + (self.0 / 64) as usize;
         words::clear_bit(indicators, at, self.0 % 64);
+    }
+
+    // Whether its bit of a row is 1.
+    pub fn has_bit(self, indicators: &[u64], row: usize, sizes: Sizes) -> bool
+        requires { ⌜ sizes .«row_words» * row + self .0 / 64 < length (now indicators) ⌝ }
+        ensures { λ r. ⌜ r ≡ bit (getD (now (indicators .entry)) (sizes .«row_words» * row + self .0 / 64) 0) (self .0 % 64) ⌝ }
+    {
+        let at = sizes.row_words * row + (self.0 / 64) as usize;
+        words::has_bit(indicators[at], self.0 % 64)
     }
 
     // A word of a row without its bit.

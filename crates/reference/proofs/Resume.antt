@@ -1,7 +1,7 @@
 -- Resume accepts exactly the tables of an array, and shows that array (rules 8.12, 10.6 and 10.7 of docs/MEMORY.md). Where each word of
 -- a store is empty or a pattern it is told by what it holds, and lists are equal by their words.
 use Prim.Native.Nat.{ℕ}
-use mathlib.Core.Path.{_≡_, refl, sym, ap, _∙_}
+use mathlib.Core.Path.{_≡_, refl, sym, ap, _∙_, fun-ext}
 use mathlib.Core.Logic.{_↔_}
 use mathlib.Core.Bool.{Bool, true, false, cond, not, true≢false, false≢true}
 use mathlib.Core.List.{List, [], _∷_, map}
@@ -26,7 +26,7 @@ use Rattle.cover.proofs.Image.{image-long}
 use Rattle.reference.specs.Entry.{empty, emptyWord, wordOf, entryOf}
 use Rattle.reference.specs.Array.{Array, entryAt}
 use Rattle.reference.specs.Tables.{Tables, storeWord, storeEntry}
-use Rattle.reference.specs.Image.{arrayCover, tablesOf}
+use Rattle.reference.specs.Image.{covers, arrayCover, storeCover, tablesOf}
 use Rattle.reference.specs.Steps.{badLengths, badEntry}
 use Rattle.reference.specs.Resume.{shown, shownImage, badWord, badTables, resumeRefusals, resumeStep}
 use Rattle.reference.specs.History.{History, onTables, after, arrayOf}
@@ -49,12 +49,25 @@ resume-keeps g t = refl
 
 -- ---- accepted exactly as rule 8.12 says
 
-pub tables-pass : (g : Geometry) (t : Tables) → (badTables g t ≡ false) ↔ (Nowhere (g .depth) (badEntry g t) × Nowhere (indicatorWords g) (badWord g t))
+-- row 10 is passed where no entry is bad and the indicators are the image
+pub tables-pass : (g : Geometry) (t : Tables) → length (t .indicators) ≡ indicatorWords g
+    → (badTables g t ≡ false) ↔ (Nowhere (g .depth) (badEntry g t) × (t .indicators ≡ shownImage g t))
 unfolding badTables
-tables-pass g t = (λ e. (none-of-any _ _ (parts .0 e .0), none-of-any _ _ (parts .0 e .1)), λ p. parts .1 (any-false _ _ (p .0), any-false _ _ (p .1)))
+tables-pass g t full = (there, back)
   where
     parts : (badTables g t ≡ false) ↔ ((any (g .depth) (badEntry g t) ≡ false) × (any (indicatorWords g) (badWord g t) ≡ false))
     parts = or-eq-false-eq-eq-false-and-eq-false (any (g .depth) (badEntry g t)) (any (indicatorWords g) (badWord g t))
+
+    there : badTables g t ≡ false → Nowhere (g .depth) (badEntry g t) × (t .indicators ≡ shownImage g t)
+    there e = (
+      none-of-any (g .depth) (badEntry g t) (parts .0 e .0),
+      ext-getD 0 (t .indicators) (shownImage g t) (full ∙ sym (image-long g (arrayCover g (shown g t))))
+          (λ m l. eqb-true _ _ (not-false _ (none-of-any (indicatorWords g) (badWord g t) (parts .0 e .1) m (rw full at l)))),
+    )
+
+    back : Nowhere (g .depth) (badEntry g t) × (t .indicators ≡ shownImage g t) → badTables g t ≡ false
+    back (fine, same) =
+        parts .1 (any-false (g .depth) (badEntry g t) fine, any-false (indicatorWords g) (badWord g t) (λ m l. ap not (eq-eqb _ _ (ap (λ (ws : List ℕ). getD ws m 0) same))))
 
 -- which number is given, by the tests of the rows
 abbrev given : (valid-geometry bad-lengths bad-tables : Bool) → Option ℕ
@@ -88,23 +101,20 @@ resume-exactly g t = (λ e. there (rows-pass g t .0 e), λ r. rows-pass g t .1 (
     there : (valid g ≡ true) × (badLengths g t ≡ false) × (badTables g t ≡ false) → Resumable g t
     there (ok, fit, fine) =
         let lengths = lengths-pass g t .0 fit in
-        let sound = tables-pass g t .0 fine in
+        let sound = tables-pass g t (lengths .1) .0 fine in
         record {
           is-valid = ok;
           long = lengths .0;
           words = lengths .1;
           entries = λ a l. entry-passes g t a .0 (sound .0 a l);
-          image = ext-getD 0 (t .indicators) (shownImage g t) (lengths .1 ∙ sym (image-long g (arrayCover g (shown g t)))) (λ m l. eqb-true _ _ (not-false _ (sound .1 m (rw (lengths .1) at l))));
+          image = sound .1;
         }
 
     back : Resumable g t → (valid g ≡ true) × (badLengths g t ≡ false) × (badTables g t ≡ false)
     back r = (
       r .is-valid,
       lengths-pass g t .1 (r .long, r .words),
-      tables-pass g t .1 (
-        λ a l. entry-passes g t a .1 (r .entries a l),
-        λ m l. ap not (eq-eqb _ _ (ap (λ (ws : List ℕ). getD ws m 0) (r .image))),
-      ),
+      tables-pass g t (r .words) .1 (λ a l. entry-passes g t a .1 (r .entries a l), r .image),
     )
 
 -- ---- and so exactly where the tables are those of an array
@@ -114,6 +124,10 @@ module _ (g : Geometry) (t : Tables) where
   shown-entry : Facts g → (a : ℕ) → entryAt (shown g t) a ≡ storeEntry g t a
   unfolding shown wordOf
   shown-entry f a = rw (entry-word g f empty (empty-fits g)) at (List·getD-map (entryOf g) (t .store) a emptyWord)
+
+  -- and so the image of it is that of the store
+  pub shown-image : Facts g → shownImage g t ≡ image g (storeCover g t)
+  shown-image f = ap (image g) (fun-ext (λ a. fun-ext (λ r. ap (λ e. covers g e r) (shown-entry f a))))
 
   shown-long : length (shown g t) ≡ length (t .store)
   unfolding shown

@@ -1,7 +1,7 @@
 // Whether four numbers are a geometry, and the sizes that follow from one that is (docs/MEMORY.md, sections 2 to 4).
 //
 // What follows from a valid geometry asks for one: the check of a call tests that before it calls these functions. Where a
-// stage is asked for, `rows` shows that the last is one, and who calls `row` that its own is.
+// stage is asked for, `rows` shows that the last is one, and who calls `row`, `stage` or `stage_rows` that its own is.
 use geometry::CASCADED;
 use geometry::Geometry;
 use geometry::SEGMENTED;
@@ -85,8 +85,8 @@ fn stage_width(g: Geometry, k: u32) -> u32
     }
 }
 
-// The rows of stage `k`.
-fn stage_rows(g: Geometry, k: u32) -> u32
+// The rows of stage `k`: its values are the numbers below this one.
+pub fn stage_rows(g: Geometry, k: u32) -> u32
     requires { ⌜ (valid g ≡ true) × (k < stages g) ⌝ }
     ensures { λ r. ⌜ r ≡ 2 ^ stageWidth g k ⌝ }
 {
@@ -94,7 +94,7 @@ fn stage_rows(g: Geometry, k: u32) -> u32
 }
 
 // The value of stage `k` of a pattern.
-fn stage(g: Geometry, k: u32, pattern: u32) -> u32
+pub fn stage(g: Geometry, k: u32, pattern: u32) -> u32
     requires { ⌜ (valid g ≡ true) × (k < stages g) ⌝ }
     ensures { λ r. ⌜ r ≡ stage g k pattern ⌝ }
 {

@@ -14,10 +14,10 @@ use Rattle.words.proofs.Rules.{any-true, any-false}
 use Rattle.words.proofs.Bits.{length-changeBit}
 use Rattle.geometry.specs.declared.Geometry.{Geometry}
 use Rattle.geometry.specs.Valid.{valid}
-use Rattle.geometry.specs.Sizes.{sets, setOf, addressOf, setLength}
+use Rattle.geometry.specs.Sizes.{setOf, addressOf, setLength}
 use Rattle.geometry.specs.Stages.{stages, rowOf, rowsOf}
 use Rattle.geometry.proofs.Facts.{facts}
-use Rattle.geometry.proofs.Places.{set-lt, address-lt, word-lt}
+use Rattle.geometry.proofs.Places.{set-lt, address-lt}
 use Rattle.geometry.proofs.Stages.{rows-drop}
 use Rattle.cover.specs.Image.{Cover}
 use Rattle.cover.specs.Change.{change, othersCover, isReleased, moved}
@@ -28,10 +28,9 @@ use Rattle.reference.specs.Image.{entryRows, covers, storeCover}
 use Rattle.reference.specs.Update.{replaced}
 use Rattle.reference.specs.Steps.{badEntry}
 use Rattle.sizes.specs.declared.Sizes.{Sizes}
-use Rattle.checks.specs.Passed.{Sized, Lent}
+use Rattle.checks.specs.Passed.{Sized}
 use Rattle.calls.specs.Answers.{tables}
 use Rattle.calls.proofs.Tested.{entry-bad, entry-held}
-use Rattle.calls.proofs.Indexed.{word-within}
 use Rattle.update.specs.Replacing.{replacing}
 
 -- ---- a row and its word for a set
@@ -39,16 +38,6 @@ use Rattle.update.specs.Replacing.{replacing}
 -- the rows from stage k on, of which the code has the first as r
 pub rows-first : (g : Geometry) (p k : ℕ) {r : ℕ} → r ≡ rowOf g p k → k < stages g → drop k (rowsOf g p) ≡ r ∷ drop (k + 1) (rowsOf g p)
 rows-first g p k e h = rw e (rows-drop g p k h)
-
--- the word with the bit of set s in row r is one of the n words
-pub place-within : {g : Geometry} {sizes : Sizes} {store ind n k s r : ℕ} (p : ℕ) → Lent g sizes store ind → n ≡ ind → k < sizes .stages
-    → r ≡ rowOf g p k → s < sets g → sizes .«row_words» * r + s / 64 < n
-place-within {g} {sizes} {store} {ind} {k = k} {s} {r} p l en hk er hs =
-    rw en (word-within g sizes store ind l p k r (s / 64) hk er (word-lt g (facts g (l .sized .is-valid)) s hs))
-
--- the set of an address, which the code has as s
-pub set-within : (g : Geometry) {a s : ℕ} → valid g ≡ true → a < g .depth → s ≡ setOf g a → s < sets g
-set-within g {a} ok h e = rw e (set-lt g (facts g ok) a h)
 
 -- ---- the indicators while rows are changed
 

@@ -226,6 +226,19 @@ trailing-lowest (suc n) a h p = go (a % 2) refl (λ q. trailing-lowest n (a / 2)
         let one : a % 2 ≡ 1 = omega arith in
         record { within = zero-lt-suc n; here = rw (bit-low, one); none-before = λ j l. absurd (omega arith) }
 
+-- What a walk over the set bits of row word j finds in a turn, where s is the place of the lowest bit of what is left of it.
+pub record Lowest (j rest s : ℕ) : Type 0 where
+  pub here : bit rest (s % 64) ≡ true
+  pub whole : s ≡ 64 * j + s % 64
+  pub less : clearBit rest (s % 64) < rest
+
+pub lowest-turn : (j rest s : ℕ) → rest < 2 ^ 64 → (rest ≡ 0 → ⊥) → s ≡ 64 * j + trailingZeros 64 rest → Lowest j rest s
+lowest-turn j rest s small some e =
+    let first = trailing-lowest 64 rest small (omega arith) in
+    let place : s % 64 ≡ trailingZeros 64 rest = omega (arith, first .within) in
+    let here : bit rest (s % 64) ≡ true = rw place (first .here) in
+    record { here = here; whole = rw place e; less = clear-lt rest (s % 64) here }
+
 -- ---- words that have a bit for each place
 
 pub length-bitWords : (n : ℕ) (r : ℕ → Bool) → length (bitWords n r) ≡ n

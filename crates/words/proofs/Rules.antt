@@ -9,11 +9,12 @@ use native.Mathlib.Numerals.{one-add}
 use native.Mathlib.Nat.{zero-add, add-zero, add-suc, add-assoc, le-of-suc-le-suc, eq-or-lt-of-le, mul-comm, div-add-mod}
 use native.Mathlib.Decide.{decLt}
 use native.Mathlib.Omega.{arith}
-use lib.Dec.{eqb, ltb}
+use lib.Dec.{eqb, leb, ltb}
 use lib.Arith.{digits-div, digits-mod}
 use lib.ListN.{length, getD}
 use lib.Seq.{ext-getD}
-use borrow.Author.Tests.{eqb-true, eq-eqb, ltb-true, ltb-false}
+use borrow.Author.Count.{below-more}
+use borrow.Author.Tests.{eqb-true, eq-eqb, leb-true, leb-false, ltb-true, ltb-false}
 use Rattle.words.specs.Rules.{any, count, lowest, member, keep, tabulate, First, Nowhere}
 
 -- two tests that follow from each other are one
@@ -21,6 +22,12 @@ pub both-ways : (a b : Bool) → (a ≡ true → b ≡ true) → (b ≡ true →
 both-ways true b p q = sym (p refl)
 both-ways false true p q = q refl
 both-ways false false p q = refl
+
+-- and so are two of which each is false where the other is
+pub both-false : (a b : Bool) → (a ≡ false → b ≡ false) → (b ≡ false → a ≡ false) → a ≡ b
+both-false false b p q = sym (p refl)
+both-false true false p q = q refl
+both-false true true p q = refl
 
 -- a test that cannot be true is false
 pub refuted : (b : Bool) → (b ≡ true → ⊥) → b ≡ false
@@ -34,6 +41,14 @@ module _ {i l n : ℕ} {r : Bool} (found : r ≡ ltb i l) (same : l ≡ n) where
 
   pub tested-past : r ≡ false → n ≤ i
   tested-past e = rw (← same) (ltb-false i l (sym found ∙ e))
+
+-- what it finds by testing l against i, where l is n
+module _ {i l n : ℕ} {r : Bool} (found : r ≡ leb l i) (same : l ≡ n) where
+  pub outside-past : r ≡ true → n ≤ i
+  outside-past e = rw (← same) (leb-true l i (sym found ∙ e))
+
+  pub outside-below : r ≡ false → i < n
+  outside-below e = rw (← same) (leb-false l i (sym found ∙ e))
 
 -- a number is told by its quotient and its remainder
 pub digits-same : (n a s o : ℕ) → o < n → eqb a (n * s + o) ≡ (eqb (a / n) s && eqb (a % n) o)
@@ -85,6 +100,17 @@ pub any-ext : (n : ℕ) (r s : ℕ → Bool) → ((i : ℕ) → i < n → r i �
 unfolding any
 any-ext zero r s h = refl
 any-ext (suc n) r s h = rw (any-ext n r s (λ i l. h i (omega arith)), h n (omega arith))
+
+-- a loop that asks one place after another, and has come to i: it has found one, goes on, or has asked all
+module _ (n : ℕ) (r : ℕ → Bool) (i : ℕ) where
+  pub any-here : i < n → {x : Bool} → x ≡ r i → x ≡ true → true ≡ any n r
+  any-here l found e = sym (any-true n r i l (sym found ∙ e))
+
+  pub any-on : Nowhere i r → {x : Bool} → x ≡ r i → x ≡ false → {next : ℕ} → next ≡ i + 1 → Nowhere next r
+  any-on before found e is = rw is (below-more _ i before (sym found ∙ e))
+
+  pub any-over : n ≤ i → Nowhere i r → false ≡ any n r
+  any-over past before = sym (any-false n r (λ j l. before j (omega arith)))
 
 -- one place apart from the others
 pub any-split : (n : ℕ) (r : ℕ → Bool) (o : ℕ) → o < n → any n r ≡ (r o || any n (λ i. not (eqb i o) && r i))

@@ -30,6 +30,14 @@ pub fn without_bit(word: u64, bit: u32) -> u64
     word & !(1u64 << bit)
 }
 
+// Whether bit `at` of a word is 1. A set shows what is asked, of its bit in a word of a row.
+pub fn has_bit(word: u64, at: u32) -> bool
+    requires { ⌜ at < 64 ⌝ }
+    ensures { λ r. ⌜ r ≡ bit word at ⌝ }
+{
+    (word >> at) % 2 == 1
+}
+
 // The mask that drops the padding of a row: the bits of word `word` that stand for one of the row's `places`.
 pub fn row_mask(places: usize, word: usize) -> u64
     ensures { λ r. ⌜ r ≡ rowMask places word ⌝ }

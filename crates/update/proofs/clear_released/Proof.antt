@@ -13,7 +13,8 @@ use Rattle.geometry.proofs.Stages.{rows-over}
 use Rattle.cover.specs.Change.{change}
 use Rattle.reference.specs.Image.{entryRows, storeCover}
 use Rattle.calls.specs.Answers.{entryFor, tables}
-use Rattle.update.proofs.RowsChanged.{rows-first, place-within, set-within, Left, change-first, change-none, change-end, givenUp, kept-by-next, others-decide, keep-end}
+use Rattle.calls.proofs.Indexed.{place-within, set-within}
+use Rattle.update.proofs.RowsChanged.{rows-first, Left, change-first, change-none, change-end, givenUp, kept-by-next, others-decide, keep-end}
 use Rattle.update.proofs.clear_released.Statement.{statement}
 use Rattle.update.proofs.clear_released.Tie as tie
 

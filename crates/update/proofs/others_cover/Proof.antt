@@ -11,7 +11,8 @@ use Rattle.words.proofs.Rules.{tested-below, tested-past}
 use Rattle.geometry.specs.Sizes.{setLength}
 use Rattle.geometry.proofs.Facts.{facts}
 use Rattle.geometry.proofs.Places.{length-most}
-use Rattle.update.proofs.RowsChanged.{set-within, otherCovers, Beside, beside, covers-not, covers-other, others-found, others-none}
+use Rattle.calls.proofs.Indexed.{set-within}
+use Rattle.update.proofs.RowsChanged.{otherCovers, Beside, beside, covers-not, covers-other, others-found, others-none}
 use Rattle.update.proofs.others_cover.Statement.{statement}
 use Rattle.update.proofs.others_cover.Tie as tie
 

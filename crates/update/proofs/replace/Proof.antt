@@ -1,7 +1,8 @@
 -- `update::replace` meets its contract, by its two ways: refusal 5, and the tables that its three steps leave.
 use mathlib.Core.Path.{refl}
 use borrow.Author.Needs.{needs}
-use Rattle.update.proofs.RowsChanged.{set-within, replace-refused, replace-done}
+use Rattle.calls.proofs.Indexed.{set-within}
+use Rattle.update.proofs.RowsChanged.{replace-refused, replace-done}
 use Rattle.update.proofs.replace.Statement.{statement}
 use Rattle.update.proofs.replace.Tie as tie
 

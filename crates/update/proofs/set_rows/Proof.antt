@@ -8,7 +8,8 @@ use Rattle.geometry.specs.Stages.{stages, rowsOf}
 use Rattle.geometry.proofs.Stages.{rows-over}
 use Rattle.cover.specs.Change.{change}
 use Rattle.reference.specs.Image.{entryRows}
-use Rattle.update.proofs.RowsChanged.{rows-first, place-within, Left, change-first, change-end}
+use Rattle.calls.proofs.Indexed.{place-within}
+use Rattle.update.proofs.RowsChanged.{rows-first, Left, change-first, change-end}
 use Rattle.update.proofs.set_rows.Statement.{statement}
 use Rattle.update.proofs.set_rows.Tie as tie
 

@@ -1,0 +1,2 @@
+pub mod Resumed
+pub mod Looks

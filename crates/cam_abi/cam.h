@@ -1,4 +1,5 @@
-/* The search memory in libcam_abi.a (`rt staticlib cam_abi`): its six calls, and two functions that give the lengths of what is lent.
+/* The search memory in libcam_abi.a (`rt staticlib cam_abi`): its six calls, one that accepts tables to go on with, and two
+ * functions that give the lengths of what is lent.
  *
  * GEOMETRY. Four numbers: the kind, 0 for transposed, 1 for cascaded and 2 for segmented; the depth, 1 to 4096; the pattern width,
  * 1 to 12 bits, in kind 1 up to 27; and the set width, which is 1, but in kind 2 any divisor of the depth up to 64.
@@ -27,9 +28,9 @@
  *
  * The row of a pattern is its own number. Kind 1 cuts a pattern into stages (or slices): stage k is its bits 9 * k to
  * 9 * k + 8, as far as it has them, and its row there is 512 * k + the value of these bits. So a pattern has one row, in kind 1 one
- * in each stage. From a clear on, a bit is 1 exactly where an address of its set holds a pattern that has its row. The bits past
- * the last set, which fill up the last word of each row, are padding: cam_clear makes them 0, no other call changes them, and no
- * answer depends on them. */
+ * in each stage. From an accepted clear or resume on, a bit is 1 exactly where an address of its set holds a pattern that has its
+ * row. The bits past the last set, which fill up the last word of each row, are padding: cam_clear makes them 0, cam_resume accepts
+ * them as 0 alone, no other call changes them, and the answers of the six calls do not depend on them. */
 #ifndef CAM_H
 #define CAM_H
 
@@ -42,7 +43,7 @@ extern "C" {
 
 #define CAM_ACCEPTED 256u
 
-/* The refusals, in the order in which they are tested. The last two tell of tables that something other than these calls has
+/* The refusals, in the order in which they are tested. The last three tell of tables that something other than these calls has
  * written since the clear, or that were never cleared. */
 enum cam_refusal {
     CAM_BAD_GEOMETRY = 1, /* the four numbers are no geometry */
@@ -50,8 +51,9 @@ enum cam_refusal {
     CAM_BAD_ADDRESS = 3,  /* the address is not below the depth */
     CAM_BAD_PATTERN = 4,  /* the pattern has more bits than the pattern width */
     CAM_BAD_ENTRY = 5,    /* write, erase, read: the store has at the address neither CAM_EMPTY nor a pattern */
-    CAM_FALSE_SET = 6     /* kind 2: a set's bit is 1 in the pattern's row, and no address of the set holds the pattern; first-match
+    CAM_FALSE_SET = 6,    /* kind 2: a set's bit is 1 in the pattern's row, and no address of the set holds the pattern; first-match
                            * tests the first bit that is 1 alone, all-match every one */
+    CAM_BAD_TABLES = 10   /* resume: no history leaves these tables */
 };
 
 /* The store's number for an empty address. */
@@ -65,6 +67,14 @@ uint64_t cam_indicator_words(uint32_t kind, uint32_t depth, uint32_t pattern_wid
 
 /* How many words a match word has, at most 64. The only refusal is CAM_BAD_GEOMETRY. */
 uint64_t cam_match_words(uint32_t kind, uint32_t depth, uint32_t pattern_width, uint32_t set_width);
+
+/* Whether tables can be gone on with, such as those read back from a board. They are accepted exactly where every number of the
+ * store is CAM_EMPTY or a pattern and every bit of the indicators is as said above for the store as it is: 1 where an address of
+ * its set holds a pattern that has its row, else 0, and 0 in the padding. After that the six calls answer and leave what they do
+ * after a clear and the calls that wrote those entries. The value is 0; the refusals are CAM_BAD_GEOMETRY, CAM_BAD_LENGTHS and
+ * CAM_BAD_TABLES. */
+uint64_t cam_resume(uint32_t kind, uint32_t depth, uint32_t pattern_width, uint32_t set_width,
+                    const uint32_t *store, size_t store_len, const uint64_t *indicators, size_t indicators_len);
 
 /* Empties every address, whatever the tables held. The value is 0. */
 uint64_t cam_clear(uint32_t kind, uint32_t depth, uint32_t pattern_width, uint32_t set_width,

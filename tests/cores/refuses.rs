@@ -23,6 +23,7 @@ macro_rules! refusing {
 refusing! {
     cam_indicator_words();
     cam_match_words();
+    cam_resume(*const u32, usize, *const u64, usize);
     cam_clear(*mut u32, usize, *mut u64, usize);
     cam_write(*mut u32, usize, *mut u64, usize, u32, u32);
     cam_erase(*mut u32, usize, *mut u64, usize, u32);

@@ -82,6 +82,46 @@ uint64_t cam_match_words(FOUR) {
     return valid(kind, depth, pattern_width, set_width) ? CAM_ACCEPTED + (depth + 63) / 64 : CAM_BAD_GEOMETRY;
 }
 
+/* Whether every entry is empty, or a pattern whose bits are all 1. */
+static int entries_shown(const struct memory *m) {
+    for (uint32_t a = 0; a < m->depth; a++) {
+        uint32_t entry = m->store[a], set = a / m->set;
+        if (entry == CAM_EMPTY) continue;
+        if (entry >> m->width) return 0;
+        for (uint32_t k = 0; k < stages(m); k++)
+            if (!(row(m, entry, k)[set / 64] >> set % 64 & 1)) return 0;
+    }
+    return 1;
+}
+
+/* Whether an address of the set holds a pattern that has the row. */
+static int covered(const struct memory *m, const uint64_t *its_row, uint32_t set) {
+    for (uint32_t a = set * m->set; a < (set + 1) * m->set; a++)
+        for (uint32_t k = 0; k < stages(m) && !(m->store[a] >> m->width); k++)
+            if (row(m, m->store[a], k) == its_row) return 1;
+    return 0;
+}
+
+/* Whether each bit that is 1 in word j of a row is that of a set which covers the row. */
+static int bits_covered(const struct memory *m, const uint64_t *its_row, uint32_t j) {
+    for (uint32_t b = 0; b < 64 && its_row[j] >> b; b++) {
+        if (!(its_row[j] >> b & 1)) continue;
+        if (64 * j + b >= m->depth / m->set) return 0;
+        if (!covered(m, its_row, 64 * j + b)) return 0;
+    }
+    return 1;
+}
+
+uint64_t cam_resume(FOUR, READ) {
+    BEGIN(0, 0);
+    if (!entries_shown(&m)) return CAM_BAD_TABLES;
+    for (size_t i = 0; i < indicators_len; i++) {
+        uint32_t j = i % row_words(&m);
+        if (!bits_covered(&m, indicators + i - j, j)) return CAM_BAD_TABLES;
+    }
+    return CAM_ACCEPTED;
+}
+
 uint64_t cam_clear(FOUR, LENT) {
     BEGIN(0, 0);
     for (size_t a = 0; a < store_len; a++) store[a] = CAM_EMPTY;

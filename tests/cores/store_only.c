@@ -24,6 +24,17 @@ static void mark(SHAPE, uint64_t *indicators, uint32_t address, uint32_t pattern
 uint64_t cam_indicator_words(SHAPE) { return (void)kind, (void)depth, (void)width, (void)set, CAM_BAD_GEOMETRY; }
 uint64_t cam_match_words(SHAPE) { return (void)kind, (void)depth, (void)width, (void)set, CAM_BAD_GEOMETRY; }
 
+/* It goes on with any indicators, since it never looks at them. */
+uint64_t cam_resume(SHAPE, READ_TABLES) {
+    UNUSED;
+    for (size_t a = 0; a < entries; a++) {
+        if (store[a] != CAM_EMPTY && store[a] >> width) {
+            return CAM_BAD_TABLES;
+        }
+    }
+    return CAM_ACCEPTED;
+}
+
 uint64_t cam_clear(SHAPE, TABLES) {
     UNUSED;
     for (size_t a = 0; a < entries; a++) {

@@ -1,16 +1,24 @@
-//! Times first-match beside a plain loop over the same store. Only ratios are printed: they are
-//! what can be compared.
+//! Times first-match beside a plain loop over the same store, and resume beside plain ways to test
+//! the same tables. Only ratios are printed: they are what can be compared.
 
 mod memory;
+mod plain;
+mod random;
+mod resume;
 mod search;
+mod timing;
 
 use memory::Memory;
-use search::{best_of_rounds, keys, Search};
+use search::{best_times, keys, Search};
 
 fn main() {
     largest_segmented();
     println!();
     growth();
+    println!();
+    resume::beside_plain();
+    println!();
+    resume::growth();
 }
 
 /// Kind 2 with every number at its limit (rules 2.3 and 2.4 of docs/MEMORY.md). A first-match is to
@@ -24,7 +32,7 @@ fn largest_segmented() {
         Search::Loop(&memory.store),
         Search::LoopBySixteens(&memory.store),
     ];
-    let times = best_of_rounds(&searches, &keys, 5);
+    let times = best_times(&searches, &keys, 5);
     println!("kind 2, D 4,096, P 12, W 64, a million first-matches, best of 5 rounds each");
     for (name, time) in [
         ("a loop, entry by entry", times[1]),
@@ -39,23 +47,8 @@ fn largest_segmented() {
 
 /// How the time of a first-match grows with the depth, in each kind and for the loop.
 fn growth() {
-    println!("time of a first-match by depth, as a ratio to the same column at depth 64");
-    println!("    depth  kind 0, P 12  kind 1, P 27  kind 2, P 12, W 64      loop");
-    let mut at_64 = Vec::new();
-    for depth in (6..=12).map(|power| 1 << power) {
-        let times = times_at(depth);
-        if at_64.is_empty() {
-            at_64 = times.clone();
-        }
-        let ratio = |i: usize| times[i] / at_64[i];
-        println!(
-            "  {depth:>7}  {:>12.2}  {:>12.2}  {:>18.2}  {:>8.2}",
-            ratio(0),
-            ratio(1),
-            ratio(2),
-            ratio(3)
-        );
-    }
+    let columns = ["kind 0, P 12", "kind 1, P 27", "kind 2, P 12, W 64", "loop"];
+    timing::print_growth("a first-match", &columns, times_at);
 }
 
 /// The times of the three kinds and of the loop at a depth, in this order.
@@ -69,7 +62,7 @@ fn times_at(depth: u32) -> Vec<f64> {
     for memory in [&transposed, &cascaded] {
         let keys = keys(memory, searches);
         search::agree(memory, &keys);
-        times.extend(best_of_rounds(&[Search::FirstMatch(memory)], &keys, rounds));
+        times.extend(best_times(&[Search::FirstMatch(memory)], &keys, rounds));
     }
     let keys = keys(&segmented, searches);
     search::agree(&segmented, &keys);
@@ -77,6 +70,6 @@ fn times_at(depth: u32) -> Vec<f64> {
         Search::FirstMatch(&segmented),
         Search::Loop(&segmented.store),
     ];
-    times.extend(best_of_rounds(&both, &keys, rounds));
+    times.extend(best_times(&both, &keys, rounds));
     times
 }

@@ -1,6 +1,8 @@
 //! The searches that are timed, and how.
 
 use crate::memory::Memory;
+use crate::random::Random;
+use crate::timing::best_of_rounds;
 use std::hint::black_box;
 use std::time::Instant;
 
@@ -23,13 +25,7 @@ pub fn keys(memory: &Memory, count: u32) -> Vec<u32> {
             _ => memory.pattern(i / 2 % stored),
         })
         .collect();
-    let mut state: u64 = 1;
-    for last in (1..keys.len()).rev() {
-        state = state
-            .wrapping_mul(6_364_136_223_846_793_005)
-            .wrapping_add(1);
-        keys.swap(last, (state >> 33) as usize % (last + 1));
-    }
+    Random::new().shuffle(&mut keys);
     keys
 }
 
@@ -81,19 +77,9 @@ fn run(keys: &[u32], search: impl Fn(u32) -> u32) {
     }
 }
 
-/// The best time of each search. The searches take turns, in one order and then in the other.
-pub fn best_of_rounds(searches: &[Search], keys: &[u32], rounds: usize) -> Vec<f64> {
-    let mut best = vec![f64::INFINITY; searches.len()];
-    for round in 0..rounds {
-        for turn in 0..searches.len() {
-            let i = match round % 2 {
-                0 => turn,
-                _ => searches.len() - 1 - turn,
-            };
-            best[i] = best[i].min(searches[i].time(keys));
-        }
-    }
-    best
+/// The best time of each search.
+pub fn best_times(searches: &[Search], keys: &[u32], rounds: usize) -> Vec<f64> {
+    best_of_rounds(searches, rounds, |search| search.time(keys))
 }
 
 /// Times of different answers say nothing: every search must give the same address for every key.

@@ -46,6 +46,8 @@ pub enum Refusal {
     Entry = 5,
     /// A false set is in the way (rule 8.9).
     Set = 6,
+    /// The tables are those of no array (rule 8.12).
+    Tables = 10,
 }
 
 impl Refusal {
@@ -63,6 +65,7 @@ impl fmt::Display for Refusal {
             Refusal::Pattern => "pattern out of range",
             Refusal::Entry => "the entry there is no pattern",
             Refusal::Set => "an indicated set does not hold the key",
+            Refusal::Tables => "no history leaves these tables",
         };
         write!(f, "refusal {}: {why}", self.number())
     }
@@ -88,6 +91,13 @@ impl Geometry {
     /// How many words a match word has. The only refusal is [`Refusal::Geometry`].
     pub fn match_words(self) -> Result<usize, Refusal> {
         accepted(raw::match_words(self)).map(|words| words as usize)
+    }
+
+    /// Accepts tables that some history leaves, those read back from a board, say, so that all that
+    /// holds after a clear holds from here on. The refusals are [`Refusal::Geometry`],
+    /// [`Refusal::Lengths`] and [`Refusal::Tables`].
+    pub fn resume(self, store: &[u32], indicators: &[u64]) -> Result<(), Refusal> {
+        accepted(raw::resume(self, store, indicators)).map(|_| ())
     }
 
     /// Empties every entry and zeroes every indicator word.
@@ -157,7 +167,10 @@ fn accepted(code: u64) -> Result<u64, Refusal> {
         4 => Err(Refusal::Pattern),
         5 => Err(Refusal::Entry),
         6 => Err(Refusal::Set),
-        0 | 7..=255 => panic!("the library gave {code}, which is the number of no refusal"),
+        10 => Err(Refusal::Tables),
+        0 | 7..=9 | 11..=255 => {
+            panic!("the library gave {code}, which is the number of no refusal")
+        }
         _ => Ok(code - 256),
     }
 }

@@ -2,9 +2,9 @@
 
 use crate::{FirstMatch, Geometry, Refusal, EMPTY};
 
-/// A geometry with tables of its own. Their lengths are the library's, and nothing but its calls
-/// writes them. So of the refusals these methods give [`Refusal::Address`] and [`Refusal::Pattern`]
-/// alone, and `new` gives [`Refusal::Geometry`] alone.
+/// A geometry with tables of its own, cleared by `new` or accepted by `resumed`. Nothing but the
+/// library's calls writes them after that. So of the refusals these methods give
+/// [`Refusal::Address`] and [`Refusal::Pattern`] alone, and `new` [`Refusal::Geometry`] alone.
 ///
 /// Two memories of one geometry are equal exactly when every address holds the same in both.
 ///
@@ -57,6 +57,22 @@ impl Memory {
         };
         memory.clear()?;
         Ok(memory)
+    }
+
+    /// A memory that goes on with tables that some history left. Refused are those that a resume
+    /// refuses ([`Geometry::resume`]).
+    pub fn resumed(
+        geometry: Geometry,
+        store: Vec<u32>,
+        indicators: Vec<u64>,
+    ) -> Result<Memory, Refusal> {
+        geometry.resume(&store, &indicators)?;
+        Ok(Memory {
+            geometry,
+            store,
+            indicators,
+            match_words: geometry.match_words()?,
+        })
     }
 
     pub fn geometry(&self) -> Geometry {

@@ -2,9 +2,9 @@
 //! gives.
 //!
 //! A code below 256 is the number of a refusal. Any other is 256 plus a value: a number of words; 0
-//! for a clear; for a write, an erase or a read the entry as the store has it; for a first-match
-//! the address (65,535 for none) + 65,536 × words_read + 2^32 × entries_compared; for an all-match
-//! the number of hits.
+//! for a resume and a clear; for a write, an erase or a read the entry as the store has it; for a
+//! first-match the address (65,535 for none) + 65,536 × words_read + 2^32 × entries_compared; for
+//! an all-match the number of hits.
 //!
 //! Why these are safe: the library asks nothing of its caller but that each pointer and length are
 //! a Rust slice's. It is proved to stay inside the slices for every geometry, every length and
@@ -22,6 +22,16 @@ mod exported {
             set_width: u32,
         ) -> u64;
         pub fn cam_match_words(kind: u32, depth: u32, pattern_width: u32, set_width: u32) -> u64;
+        pub fn cam_resume(
+            kind: u32,
+            depth: u32,
+            pattern_width: u32,
+            set_width: u32,
+            store: *const u32,
+            store_len: usize,
+            indicators: *const u64,
+            indicators_len: usize,
+        ) -> u64;
         pub fn cam_clear(
             kind: u32,
             depth: u32,
@@ -108,6 +118,17 @@ pub fn indicator_words(g: Geometry) -> u64 {
 
 pub fn match_words(g: Geometry) -> u64 {
     call!(cam_match_words, g)
+}
+
+pub fn resume(g: Geometry, store: &[u32], indicators: &[u64]) -> u64 {
+    call!(
+        cam_resume,
+        g,
+        store.as_ptr(),
+        store.len(),
+        indicators.as_ptr(),
+        indicators.len()
+    )
 }
 
 pub fn clear(g: Geometry, store: &mut [u32], indicators: &mut [u64]) -> u64 {

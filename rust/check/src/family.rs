@@ -28,8 +28,8 @@ pub trait AnyCall: Clone + Display {
     fn writes_tables(&self) -> bool;
     /// What a code says as the answer to this call.
     fn describe(&self, code: u64) -> String;
-    /// The call as a command in a text for `tools/camjob`.
-    fn job_line(&self) -> String;
+    /// The call as a command in a text for `tools/camjob`, if a job can make it.
+    fn job_line(&self) -> Option<String>;
 }
 
 /// The right answer to a call.
@@ -70,6 +70,12 @@ pub trait Family: Clone + 'static {
     /// A call for such tables.
     fn single_call(random: &mut Random, g: &Geometry, pool: &Self::Pool) -> Self::Call;
 
+    /// The addresses whose entries `erase` takes away: none where the tables do not fit.
+    fn held(g: &Geometry, tables: &Self::Tables) -> Vec<u32>;
+    /// Takes an entry away with all that stands for it, so that tables which belong together stay
+    /// so when a trial is cut down.
+    fn erase(g: &Geometry, tables: &mut Self::Tables, address: u32);
+
     /// What a single call meets, from the tables before it and the answer.
     fn met_by_step(
         g: &Geometry,
@@ -93,10 +99,15 @@ pub trait Histories: Family {
     /// The tables that belong to the array.
     fn tables_of(array: &Self::Array) -> Self::Tables;
 
-    /// Tables that a history may begin on, whatever they hold.
-    fn dirty_tables(random: &mut Random, g: &Geometry) -> Self::Tables;
     /// The call that begins a history, at times with others that fill the memory.
     fn opening(random: &mut Random, g: &Geometry, pool: &Self::Pool) -> Vec<Self::Call>;
+    /// Tables on which this call begins one, whatever else they hold.
+    fn begun_on(
+        random: &mut Random,
+        g: &Geometry,
+        pool: &Self::Pool,
+        first: &Self::Call,
+    ) -> Self::Tables;
     /// Any later call.
     fn later_call(random: &mut Random, g: &Geometry, pool: &Self::Pool) -> Self::Call;
 

@@ -1,4 +1,4 @@
-//! Random trials of a family: histories, from a call that begins one on tables that hold anything;
+//! Random trials of a family: histories, from a call that begins one on tables that it accepts;
 //! and single calls on tables that no history leaves, damaged ones, ones of wrong length, and of
 //! bad geometries.
 
@@ -19,7 +19,7 @@ pub fn random_history<F: Histories>(random: &mut Random) -> Trial<F> {
     }
     Trial {
         geometry,
-        before: F::dirty_tables(random, &geometry),
+        before: F::begun_on(random, &geometry, &pool, &calls[0]),
         calls,
     }
 }

@@ -1,8 +1,9 @@
 //! The checking program. It holds the library's calls and the program `camrun` to a second writing
 //! of docs/MEMORY.md, whose rules are cited by number. `family` says what a family of calls is,
-//! `binary` is the family of the six calls, `jobs` has the job files and what is printed for them.
-//! It runs the cases of docs/MEMORY.md, examples from elsewhere, random histories from an accepted
-//! clear, random single calls on damaged tables, and random jobs.
+//! `binary` is the family of the six calls, `resume` has the resume beside them, `jobs` has the job
+//! files and what is printed for them. It runs the cases of docs/MEMORY.md, examples from
+//! elsewhere, random histories from an accepted clear, random single calls on damaged tables,
+//! random resumes, random histories that resumes begin and cut, and random jobs.
 
 mod binary;
 mod coverage;
@@ -18,6 +19,7 @@ mod parts;
 mod pool;
 mod random;
 mod reduce;
+mod resume;
 mod script;
 mod scripts;
 mod shapes;
@@ -32,7 +34,8 @@ mod watch;
 use binary::{cases, vectors, Binary};
 use options::{help, Names, Options};
 use parts::{histories, single_calls, Counts, Part};
-use scripts::Scripts;
+use resume::Resume;
+use scripts::{Scripts, WrittenOut};
 use std::process::ExitCode;
 use watch::{Death, Limits};
 
@@ -41,12 +44,14 @@ fn random_parts() -> Vec<Box<dyn Part>> {
     vec![
         histories::<Binary>(),
         single_calls::<Binary>(),
+        single_calls::<Resume>(),
+        histories::<Resume>(),
         jobs::part(),
     ]
 }
 
 /// The written-out examples, which run before them.
-fn written_out() -> [Scripts<Binary>; 2] {
+fn written_out() -> [Box<dyn WrittenOut>; 3] {
     let cases = Scripts {
         name: "cases of docs/MEMORY.md",
         number: 11,
@@ -57,7 +62,12 @@ fn written_out() -> [Scripts<Binary>; 2] {
         number: 12,
         scripts: vectors::vectors(),
     };
-    [cases, vectors]
+    let resumes = Scripts {
+        name: "cases of resume",
+        number: 13,
+        scripts: resume::cases::cases(),
+    };
+    [Box::new(cases), Box::new(vectors), Box::new(resumes)]
 }
 
 /// Public, so that `tools/checkcore` can take the program for a library and link each core with it.
@@ -146,7 +156,7 @@ fn run_watched(
 fn show_death(options: &Options, parts: &[Box<dyn Part>], death: &Death) {
     let number = death.place.part;
     let scripts = written_out();
-    if let Some(scripts) = scripts.iter().find(|scripts| scripts.number == number) {
+    if let Some(scripts) = scripts.iter().find(|scripts| scripts.number() == number) {
         scripts.show_death(options, death);
     } else if let Some(part) = parts.iter().find(|part| part.names().number == number) {
         part.show_death(options, death);

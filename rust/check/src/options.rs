@@ -37,16 +37,16 @@ const LAST_LINES: &str = "
                      write the right ones: NAME.store and NAME.indicators beside each NAME.job that
                      is not stopped whole
   --trace            print the name or number of each trial before it runs, to find one that crashes
-  --quick            a tenth of the histories and single calls, and no job, where no number is given
+  --quick            a tenth of the random trials, and no job, where no number is given
   --brief            do not print how often each thing was met
   --texts FOLDER     write the failing histories that are printed as texts for tools/camjob
   --watch N          run the core in a process of its own; a call of over N seconds is a failure
   --limit N          with --watch, stop a run of over N seconds (default 600)
   --help             print this
 
-Each case, vector, history, single call and job counts one, each of the two lengths and the listing
-that camrun prints too, and so does, for each random part, that it met all it is made for. A few
-trials may not, which is then a failure. A job that fails is cut down and put into a file, whose
+Each case, vector, history, single call, resume and job counts one, each of the two lengths and the
+listing that camrun prints too, and so does, for each random part, that it met all it is made for. A
+few trials may not, which is then a failure. A job that fails is cut down and put into a file, whose
 name is printed. With --jobs 0 the program camrun is not needed.
 The exit status is 0 when nothing failed. The last line is 'N passed, M failed'.";
 

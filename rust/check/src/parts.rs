@@ -91,7 +91,7 @@ pub fn histories<F: Histories>() -> Box<dyn Part> {
         cut: reduce,
         text: |trial, _, _| trial.to_string(),
         call: Trial::call_text,
-        job: |heading, trial, failure| Some(texts::of_history(heading, trial, failure)),
+        job: texts::of_history,
         required: F::OF_HISTORIES,
     })
 }
@@ -221,6 +221,7 @@ impl<T> RandomPart<T> {
         let (seed, one) = (options.seed, self.names.trial);
         let heading = format!("From {one} {index} of seed {seed}.");
         let text = (self.job)(&heading, trial, failure);
-        texts::keep(options, &format!("{one}-{index}"), text);
+        let name = format!("{one} {index}").replace(' ', "-");
+        texts::keep(options, &name, text);
     }
 }

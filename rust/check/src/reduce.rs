@@ -16,11 +16,12 @@ type Step<F> = fn(&mut Trial<F>, Fails<Trial<F>>) -> bool;
 /// A change that makes a trial smaller in some way.
 type Edit<F> = Box<dyn Fn(&mut Trial<F>)>;
 
-/// Removes calls until none can be removed, then lowers numbers and empties tables where it still
-/// fails; begins again as long as something changes.
+/// Removes calls until none can be removed, then erases entries, lowers numbers and empties tables
+/// where it still fails; begins again as long as something changes.
 pub fn reduce<F: Family>(mut trial: Trial<F>, fails: Fails<Trial<F>>) -> Trial<F> {
-    let steps: [Step<F>; 5] = [
+    let steps: [Step<F>; 6] = [
         remove_calls,
+        erase_entries,
         |trial, fails| edit_while_any(trial, fails, smaller_geometries),
         |trial, fails| edit_while_any(trial, fails, lower_numbers_of_calls),
         |trial, fails| edit_while_any(trial, fails, nearer_lengths),
@@ -67,12 +68,23 @@ fn remove_calls<F: Family>(trial: &mut Trial<F>, fails: Fails<Trial<F>>) -> bool
     remove_runs(trial, fails, |trial| trial.calls.len(), remove)
 }
 
+/// Takes entries out of all tables at once.
+fn erase_entries<F: Family>(trial: &mut Trial<F>, fails: Fails<Trial<F>>) -> bool {
+    let held = |trial: &Trial<F>| F::held(&trial.geometry, &trial.before);
+    let erase = |trial: &mut Trial<F>, run: Range<usize>| {
+        for &address in &held(trial)[run] {
+            F::erase(&trial.geometry, &mut trial.before, address);
+        }
+    };
+    remove_runs(trial, fails, |trial| held(trial).len(), erase)
+}
+
 /// Removes runs of what a trial is a sequence of, long runs first.
 pub fn remove_runs<T: Clone>(
     trial: &mut T,
     fails: Fails<T>,
-    length: fn(&T) -> usize,
-    remove: fn(&mut T, Range<usize>),
+    length: impl Fn(&T) -> usize,
+    remove: impl Fn(&mut T, Range<usize>),
 ) -> bool {
     let mut changed = false;
     let mut run = length(trial);

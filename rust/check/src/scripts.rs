@@ -8,6 +8,14 @@ use crate::script::Script;
 use crate::texts;
 use crate::watch::{failure_here, Death, Failure};
 
+/// A part made of written-out examples, whatever the family of their calls.
+pub trait WrittenOut {
+    fn number(&self) -> u64;
+    fn run(&self, options: &Options) -> Counts;
+    /// Prints the script in which the core died.
+    fn show_death(&self, options: &Options, death: &Death);
+}
+
 pub struct Scripts<F: Histories> {
     pub name: &'static str,
     /// Its number in the note, which no other part has.
@@ -15,8 +23,12 @@ pub struct Scripts<F: Histories> {
     pub scripts: Vec<Script<F>>,
 }
 
-impl<F: Histories> Scripts<F> {
-    pub fn run(&self, options: &Options) -> Counts {
+impl<F: Histories> WrittenOut for Scripts<F> {
+    fn number(&self) -> u64 {
+        self.number
+    }
+
+    fn run(&self, options: &Options) -> Counts {
         let mut counts = Counts::default();
         for (script, index) in self.scripts.iter().zip(0..) {
             if options.trace {
@@ -37,8 +49,7 @@ impl<F: Histories> Scripts<F> {
         counts
     }
 
-    /// Prints the script in which the core died.
-    pub fn show_death(&self, options: &Options, death: &Death) {
+    fn show_death(&self, options: &Options, death: &Death) {
         let script = &self.scripts[death.place.index as usize];
         let call = death.place.calls;
         let what = death.text(script.call_text(call));
@@ -50,7 +61,7 @@ impl<F: Histories> Scripts<F> {
 fn show<F: Histories>(options: &Options, script: &Script<F>, failure: &Failure) {
     let (name, geometry) = (script.name, script.geometry);
     println!("FAILED, {name} ({geometry})\n    {}", failure.what);
-    let text = script.history().map(|trial| {
+    let text = script.history().and_then(|trial| {
         let heading = format!("The calls of {name}.");
         texts::of_history(&heading, &trial, failure)
     });

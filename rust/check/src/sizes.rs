@@ -1,23 +1,25 @@
 //! The lengths that the library gives for a geometry, against those of the second writing; and the
-//! wrapper's memory that has tables of these lengths, against the calls that are lent theirs.
+//! wrapper's memory that has tables of its own, new or taken over, against the calls that are lent
+//! theirs.
 
-use crate::binary::call::Call;
-use crate::binary::library::{self, wrapped};
-use crate::binary::{Binary, Tables};
+use crate::binary::call::Call as SixCalls;
+use crate::binary::library::wrapped;
+use crate::binary::Tables;
 use crate::family::{AnyAnswer, AnyCall, Family};
-use crate::generate::random_history;
+use crate::generate::{random_history, random_single_call};
 use crate::geometry::{geometry, Geometry};
 use crate::note::note;
 use crate::options::Options;
 use crate::parts::{Counts, SHOWN_FAILURES};
 use crate::random::Random;
+use crate::resume::{library, Call, Resume};
 use crate::tables::MATCH_WORD;
 use crate::trial::Trial;
 use crate::watch::Death;
 use cam::{raw, Refusal};
 
-/// How many histories the owned memories have, and what keeps their generator apart.
-const HISTORIES: u64 = 1000;
+/// How many owned memories there are, and what keeps their generator apart.
+const MEMORIES: u64 = 1500;
 const NUMBER: u64 = 4;
 
 /// Numbers past the small ones, around where a row gets another word and where a rule ends.
@@ -122,7 +124,7 @@ fn geometries() -> Vec<Geometry> {
 
 fn owned(options: &Options) -> Counts {
     let mut counts = Counts::default();
-    for index in 0..HISTORIES {
+    for index in 0..MEMORIES {
         if options.trace {
             println!("owned memory {index}");
         }
@@ -138,8 +140,13 @@ fn owned(options: &Options) -> Counts {
     counts
 }
 
-fn trial(options: &Options, index: u64) -> Trial<Binary> {
-    random_history(&mut Random::of_trial(options.seed, NUMBER, index))
+/// Two histories, and then a resume of any tables, most of which no memory goes on with.
+fn trial(options: &Options, index: u64) -> Trial<Resume> {
+    let random = &mut Random::of_trial(options.seed, NUMBER, index);
+    match index % 3 {
+        2 => random_single_call(random),
+        _ => random_history(random),
+    }
 }
 
 /// Prints where the core died, if not in a part that says it itself.
@@ -152,22 +159,20 @@ pub fn show_death(options: &Options, death: &Death) {
     println!("    {}", death.text(None));
 }
 
-/// A memory begins as the clear leaves lent tables, and each call gives and leaves the same on both.
-/// What is right the other parts say: here a wrong core and a right one do the same.
-fn judge(trial: &Trial<Binary>) -> Result<(), String> {
+/// A memory begins as the first call leaves lent tables, or is refused as that is, and each call
+/// gives and leaves the same on both. What is right the other parts say: here a wrong core and a
+/// right one do the same.
+fn judge(trial: &Trial<Resume>) -> Result<(), String> {
     let g = &trial.geometry;
     let mut tables = trial.before.clone();
-    if Binary::raw(g, &mut tables, &mut Call::Clear) != 256 {
+    let Some(mut memory) = begun(trial, &mut tables)? else {
         return Ok(());
-    }
-    let memory = cam::Memory::new(wrapped(g));
-    let mut memory = memory.map_err(|why| format!("there is no such memory: {why}"))?;
-    same_tables(&memory, &tables).map_err(|what| format!("new: {what}"))?;
+    };
+    same_tables(&memory, &tables).map_err(|what| format!("at the beginning: {what}"))?;
     for call in &trial.calls {
         let mut call = with_own_match_word(g, call);
-        let lent = Binary::raw(g, &mut tables, &mut call);
-        // The wrapper panics at a number that is no refusal's.
-        if matches!(lent, 0 | 7..=255) {
+        let lent = Resume::raw(g, &mut tables, &mut call);
+        if is_no_refusal(lent) {
             return Ok(());
         }
         let owned = library::owned(&mut memory, &call).code();
@@ -181,13 +186,43 @@ fn judge(trial: &Trial<Binary>) -> Result<(), String> {
     Ok(())
 }
 
+/// The memory that the first call begins, a new one or one that goes on with the tables; none where
+/// that call is refused. On the lent tables it is made too.
+fn begun(trial: &Trial<Resume>, tables: &mut Tables) -> Result<Option<cam::Memory>, String> {
+    let (g, first) = (wrapped(&trial.geometry), &trial.calls[0]);
+    let lent = Resume::raw(&trial.geometry, tables, &mut first.clone());
+    if is_no_refusal(lent) || lent > 256 {
+        return Ok(None);
+    }
+    let (store, indicators) = (&trial.before.store, &trial.before.indicators);
+    let memory = match first {
+        Call::Resume => cam::Memory::resumed(g, store.to_vec(), indicators.to_vec()),
+        // A new memory clears other tables, which the core may take otherwise.
+        Call::Six(_) if lent < 256 => return Ok(None),
+        Call::Six(_) => cam::Memory::new(g),
+    };
+    let given = memory.as_ref().map_or_else(|why| why.number(), |_| 256);
+    match u64::from(given) == lent {
+        true => Ok(memory.ok()),
+        false => {
+            let (given, right) = (first.describe(given.into()), first.describe(lent));
+            Err(format!("{first} makes: {given}; lent tables give: {right}"))
+        }
+    }
+}
+
+/// The wrapper panics at such a number.
+fn is_no_refusal(code: u64) -> bool {
+    matches!(code, 0 | 7..=9 | 11..=255)
+}
+
 /// A memory lends a match word of the right length.
 fn with_own_match_word(g: &Geometry, call: &Call) -> Call {
     match *call {
-        Call::AllMatch { key, .. } => Call::AllMatch {
+        Call::Six(SixCalls::AllMatch { key, .. }) => Call::Six(SixCalls::AllMatch {
             key,
             lent: MATCH_WORD.table(&vec![0; g.match_words()]),
-        },
+        }),
         _ => call.clone(),
     }
 }
@@ -195,7 +230,7 @@ fn with_own_match_word(g: &Geometry, call: &Call) -> Call {
 /// Of an all-match, whose match word was left by the lent call: the words, and the addresses whose
 /// bits are 1.
 fn same_matches(memory: &cam::Memory, call: &Call) -> Result<(), String> {
-    let Call::AllMatch { key, lent } = call else {
+    let Call::Six(SixCalls::AllMatch { key, lent }) = call else {
         return Ok(());
     };
     let Ok(found) = memory.all_match(*key) else {

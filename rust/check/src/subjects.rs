@@ -6,6 +6,21 @@ use crate::geometry::{Geometry, CASCADED, SEGMENTED};
 /// The name of a trouble.
 pub type Subject = &'static str;
 
+/// The names of a trouble that is to be met in each kind, by the kind.
+pub type InEachKind = [Subject; 3];
+
+/// Makes them of the one name of the trouble.
+macro_rules! in_each_kind {
+    ($trouble:literal) => {
+        [
+            concat!("kind 0, ", $trouble),
+            concat!("kind 1, ", $trouble),
+            concat!("kind 2, ", $trouble),
+        ]
+    };
+}
+pub(crate) use in_each_kind;
+
 /// The subjects that are marked as met.
 pub fn those(subjects: &[(bool, Subject)]) -> Vec<Subject> {
     let met = subjects.iter().filter(|(is_met, _)| *is_met);

@@ -26,21 +26,26 @@ pub fn keep(options: &Options, name: &str, text: Option<String>) {
     }
 }
 
-/// The text of a history that fails, with comments that say how. The heading says which it is.
-pub fn of_history<F: Histories>(heading: &str, trial: &Trial<F>, failure: &Failure) -> String {
+/// The text of a history that fails, with comments that say how, if a job can make its calls. The
+/// heading says which it is.
+pub fn of_history<F: Histories>(
+    heading: &str,
+    trial: &Trial<F>,
+    failure: &Failure,
+) -> Option<String> {
     let mut lines = vec![heading.to_string()];
     match failure.call {
         0 => lines.push(format!("Every answer was right, but {}.", failure.what)),
         _ => lines.push(format!("{}.", failure.what)),
     }
     lines.extend(before(trial));
-    let mut commands = commands(trial, failure);
+    let mut commands = commands(trial, failure)?;
     if failure.call == 0 {
         commands += &questions(trial);
     }
     lines.extend(stop(&trial.geometry, &commands));
     let comments: String = lines.iter().map(|line| comment(line)).collect();
-    comments + &geometry_line(&trial.geometry) + &commands
+    Some(comments + &geometry_line(&trial.geometry) + &commands)
 }
 
 /// A comment of one line, whatever the words.
@@ -82,7 +87,7 @@ fn stop(g: &Geometry, commands: &str) -> Option<String> {
 
 /// A line for each call, with a remark at the one that went wrong. Commands are counted from 0, as
 /// in a report.
-fn commands<F: Histories>(trial: &Trial<F>, failure: &Failure) -> String {
+fn commands<F: Histories>(trial: &Trial<F>, failure: &Failure) -> Option<String> {
     let mut array = trial.first_array().expect("it is a history");
     let mut text = String::new();
     let mut command = 0;
@@ -93,14 +98,14 @@ fn commands<F: Histories>(trial: &Trial<F>, failure: &Failure) -> String {
             text += &comment(&no_command(&trial.notation(call), wrong));
             continue;
         }
-        text += &call.job_line();
+        text += &call.job_line()?;
         if wrong {
             text += &format!("    # wrong here; the right line begins with {command}");
         }
         text += "\n";
         command += 1;
     }
-    text
+    Some(text)
 }
 
 fn no_command(call: &str, wrong: bool) -> String {

@@ -17,8 +17,8 @@ pub struct Trial<F: Family> {
 }
 
 impl<F: Histories> Trial<F> {
-    /// What rule 10.2 of docs/MEMORY.md speaks of: calls that begin with a clear on tables that it
-    /// accepts.
+    /// What rules 10.2 and 10.6 of docs/MEMORY.md speak of: calls of which the first is accepted
+    /// and begins a history.
     pub fn is_history(&self) -> bool {
         self.first_array().is_some()
     }
@@ -27,8 +27,8 @@ impl<F: Histories> Trial<F> {
         F::begin(&self.geometry, &self.before, self.calls.first()?)
     }
 
-    /// Every answer is the plain array's (rule 10.2), and at the end so are the tables (rule 10.3).
-    /// The array runs first, so that it cannot know what the library does.
+    /// Every answer is the plain array's (rules 10.2 and 10.6), and at the end so are the tables
+    /// (rule 10.3). The array runs first, so that it cannot know what the library does.
     pub fn judge_history(&self, tally: &mut Tally) -> Result<(), String> {
         let mut array = self.first_array().expect("it is a history");
         let mut answers = Vec::new();

@@ -13,12 +13,18 @@ pub struct Array {
 }
 
 impl Array {
-    /// The array that a history begins with (rule 10.2).
+    /// The array that a history begins with, if a clear begins it (rule 10.2).
     pub fn empty(geometry: Geometry) -> Array {
         Array {
             geometry,
             entries: vec![None; geometry.depth as usize],
         }
+    }
+
+    /// The array of a history that begins with these entries (rule 10.6).
+    pub fn holding(geometry: Geometry, entries: Vec<Option<u32>>) -> Array {
+        assert_eq!(entries.len(), geometry.depth as usize);
+        Array { geometry, entries }
     }
 
     pub fn geometry(&self) -> Geometry {

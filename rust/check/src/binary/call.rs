@@ -79,15 +79,15 @@ impl AnyCall for Call {
         describe(self, code)
     }
 
-    fn job_line(&self) -> String {
-        match self {
+    fn job_line(&self) -> Option<String> {
+        Some(match self {
             Call::Clear => "clear".to_string(),
             Call::Write { address, pattern } => format!("write {address} {pattern}"),
             Call::Erase { address } => format!("erase {address}"),
             Call::Read { address } => format!("read {address}"),
             Call::FirstMatch { key } => format!("first {key}"),
             Call::AllMatch { key, .. } => format!("all {key}"),
-        }
+        })
     }
 }
 

@@ -69,13 +69,18 @@ pub fn mostly_not_clear(random: &mut Random, g: &Geometry, pool: &Pool) -> Call 
     }
 }
 
-/// A sound memory with a few entries, then some damage.
-pub fn damaged_tables(random: &mut Random, g: &Geometry, pool: &Pool) -> Tables {
+/// An array with a few entries that are near one another.
+pub fn few_entries(random: &mut Random, g: &Geometry, pool: &Pool) -> Vec<Option<u32>> {
     let mut entries = vec![None; g.depth as usize];
     for _ in 0..random.below(12) {
         entries[pool.address(random) as usize] = Some(pool.pattern(random, g));
     }
-    let mut tables = image::tables(g, &entries);
+    entries
+}
+
+/// A sound memory with a few entries, then some damage.
+pub fn damaged_tables(random: &mut Random, g: &Geometry, pool: &Pool) -> Tables {
+    let mut tables = image::tables(g, &few_entries(random, g, pool));
     if random.one_in(16) {
         let any = random.words(tables.indicators.len());
         tables.indicators.copy_from_slice(&any);

@@ -6,9 +6,9 @@ pub mod array;
 pub mod call;
 pub mod cases;
 pub mod generate;
-mod image;
+pub mod image;
 pub mod library;
-mod lines;
+pub mod lines;
 mod required;
 mod steps;
 pub mod subjects;
@@ -91,6 +91,19 @@ impl Family for Binary {
         generate::mostly_not_clear(random, g, pool)
     }
 
+    fn held(g: &Geometry, tables: &Tables) -> Vec<u32> {
+        if !g.is_valid() || !tables.fit(g) {
+            return Vec::new();
+        }
+        (0..g.depth)
+            .filter(|&address| tables.store[address as usize] < g.patterns())
+            .collect()
+    }
+
+    fn erase(g: &Geometry, tables: &mut Tables, address: u32) {
+        steps::step(g, tables, &Call::Erase { address });
+    }
+
     fn met_by_step(g: &Geometry, before: &Tables, call: &Call, answer: &Answer) -> Vec<Subject> {
         subjects::of_step(g, before, call, answer)
     }
@@ -124,12 +137,12 @@ impl Histories for Binary {
         image::tables(&array.geometry(), array.entries())
     }
 
-    fn dirty_tables(random: &mut Random, g: &Geometry) -> Tables {
-        generate::dirty_tables(random, g)
-    }
-
     fn opening(random: &mut Random, g: &Geometry, pool: &Pool) -> Vec<Call> {
         generate::opening(random, g, pool)
+    }
+
+    fn begun_on(random: &mut Random, g: &Geometry, _: &Pool, _: &Call) -> Tables {
+        generate::dirty_tables(random, g)
     }
 
     fn later_call(random: &mut Random, g: &Geometry, pool: &Pool) -> Call {

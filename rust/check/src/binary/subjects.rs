@@ -129,7 +129,7 @@ fn overwriting(g: &Geometry, entries: &[Option<u32>], a: u32, p: u32, q: u32) ->
     }
 }
 
-fn neighbour_holds(g: &Geometry, entries: &[Option<u32>], a: u32, q: u32) -> bool {
+pub fn neighbour_holds(g: &Geometry, entries: &[Option<u32>], a: u32, q: u32) -> bool {
     g.addresses_of(g.set_of(a))
         .any(|other| other != a && entries[other as usize] == Some(q))
 }
@@ -242,7 +242,7 @@ fn set_holds(g: &Geometry, tables: &Tables, set: usize, p: u32) -> bool {
 }
 
 /// How many addresses of a set have the pattern.
-fn holders(g: &Geometry, tables: &Tables, set: usize, p: u32) -> usize {
+pub fn holders(g: &Geometry, tables: &Tables, set: usize, p: u32) -> usize {
     g.addresses_of(set)
         .filter(|&address| tables.store[address as usize] == p)
         .count()

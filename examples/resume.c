@@ -16,33 +16,15 @@ struct tables {
     uint64_t indicators[WORDS];
 };
 
-/* Whether a call was refused; if so its number is printed. */
-static int refused(uint64_t result) {
+/* What a call gave: the number of its refusal, or an entry or address; CAM_EMPTY or CAM_NONE is what stands for nothing there. */
+static void show(const char *call, uint64_t result, uint32_t nothing) {
+    uint32_t value = nothing == CAM_NONE ? cam_address(result) : (uint32_t)(result - CAM_ACCEPTED);
     if (result < CAM_ACCEPTED) {
-        printf("no %" PRIu64 "\n", result);
-    }
-    return result < CAM_ACCEPTED;
-}
-
-static void print_entry(uint64_t result) {
-    if (refused(result)) {
-        return;
-    }
-    if (result - CAM_ACCEPTED == CAM_EMPTY) {
-        printf("was -\n");
+        printf("  %s: no %" PRIu64 "\n", call, result);
+    } else if (value == nothing) {
+        printf("  %s: -\n", call);
     } else {
-        printf("was %" PRIu64 "\n", result - CAM_ACCEPTED);
-    }
-}
-
-static void print_match(uint64_t result) {
-    if (refused(result)) {
-        return;
-    }
-    if (cam_address(result) == CAM_NONE) {
-        printf("none\n");
-    } else {
-        printf("at %" PRIu32 "\n", cam_address(result));
+        printf("  %s: %" PRIu32 "\n", call, value);
     }
 }
 
@@ -59,23 +41,23 @@ static int loaded(struct tables *t, FILE *file) {
 
 /* The calls after the break. */
 static void go_on(struct tables *t) {
-    print_entry(cam_write(LENT(t), 3, 2));
-    print_match(cam_first_match(LENT(t), 1));
-    print_match(cam_first_match(LENT(t), 2));
-    print_entry(cam_erase(LENT(t), 2));
-    print_match(cam_first_match(LENT(t), 1));
+    show("write 2 at 3", cam_write(LENT(t), 3, 2), CAM_EMPTY);
+    show("first match of 1", cam_first_match(LENT(t), 1), CAM_NONE);
+    show("first match of 2", cam_first_match(LENT(t), 2), CAM_NONE);
+    show("erase 2", cam_erase(LENT(t), 2), CAM_EMPTY);
+    show("first match of 1", cam_first_match(LENT(t), 1), CAM_NONE);
 }
 
 int main(void) {
     struct tables unbroken, again;
     FILE *file = tmpfile();
-    if (!file || refused(cam_clear(LENT(&unbroken)))) {
+    if (!file || cam_clear(LENT(&unbroken)) < CAM_ACCEPTED) {
         return 1;
     }
     printf("before the break\n");
-    print_entry(cam_write(LENT(&unbroken), 2, 1));
-    print_entry(cam_write(LENT(&unbroken), 3, 1));
-    if (!saved(&unbroken, file) || !loaded(&again, file) || refused(cam_resume(LENT(&again)))) {
+    show("write 1 at 2", cam_write(LENT(&unbroken), 2, 1), CAM_EMPTY);
+    show("write 1 at 3", cam_write(LENT(&unbroken), 3, 1), CAM_EMPTY);
+    if (!saved(&unbroken, file) || !loaded(&again, file) || cam_resume(LENT(&again)) < CAM_ACCEPTED) {
         return 1;
     }
     printf("resumed\n");
@@ -87,10 +69,8 @@ int main(void) {
     printf("tables %s\n", same ? "the same" : "not the same");
 
     /* Address 3 holds pattern 2, and no match would find it once the bit of its set is 0. */
-    printf("a bit flipped\n");
     again.indicators[2] ^= 2;
-    refused(cam_resume(LENT(&again)));
-    printf("a word missing\n");
-    refused(cam_resume(GEOMETRY, again.store, DEPTH, again.indicators, WORDS - 1));
+    printf("a bit flipped: no %" PRIu64 "\n", cam_resume(LENT(&again)));
+    printf("a word missing: no %" PRIu64 "\n", cam_resume(GEOMETRY, again.store, DEPTH, again.indicators, WORDS - 1));
     return fclose(file) != 0;
 }

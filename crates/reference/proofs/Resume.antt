@@ -133,7 +133,7 @@ module _ (g : Geometry) (t : Tables) where
   unfolding shown
   shown-long = length-map (t .store) (entryOf g)
 
-  -- an accepted resume begins with the array that the store shows
+  -- so an accepted resume begins, with what the store shows for its array
   pub resume-begins : resumeStep g t .refusal ≡ Option.none → Begun g t (shown g t)
   unfolding tablesOf
   resume-begins e = record {

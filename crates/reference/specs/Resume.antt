@@ -25,7 +25,7 @@ shown g t = map (entryOf g) (t .store)
 abbrev pub shownImage : Geometry → Tables → List ℕ
 shownImage g t = image g (arrayCover g (shown g t))
 
--- Whether a word of the indicators is another one.
+-- Whether word m of the indicators is another than the one there.
 abbrev pub badWord : Geometry → Tables → ℕ → Bool
 badWord g t m = not (eqb (getD (t .indicators) m 0) (getD (shownImage g t) m 0))
 

@@ -48,8 +48,8 @@ pub record Follows (g : Geometry) (es : Array) (t : Tables) (cs : History) : Typ
 abbrev pub Later : Geometry → Call (List ℕ) → ℕ → Type 0
 Later g c n = (n ≡ 3) ⊎ ((n ≡ 4) ⊎ ((n ≡ 2) × (badMatches g c ≡ true)))
 
--- Tables with which a history can go on: every entry is empty or a pattern, and the indicators are the image of the array that the
--- store shows, padding bits included (rule 8.12).
+-- Tables with which a history can go on: of the right lengths, with no word in the store but empty ones and patterns, and with the
+-- image of what it shows for the indicators, padding bits included (rule 8.12).
 pub record Resumable (g : Geometry) (t : Tables) : Type 0 where
   pub is-valid : valid g ≡ true
   pub long : length (t .store) ≡ g .depth

@@ -5,3 +5,4 @@ pub mod Stale
 pub mod Looks
 pub mod Outcomes
 pub mod Beginning
+pub mod Examples

@@ -1,5 +1,5 @@
--- The two looks find exactly what refusal 10 is given for: where every entry has its bits and every bit its entry, the indicators are
--- the image of the store, and the reverse. Bit by bit, with the rows by their stages.
+-- The two looks find exactly what refusal 10 is given for: every entry has its bits and every bit its entry where no word differs from
+-- that of the image, and nowhere else. Bit by bit, with the rows by their stages.
 use Prim.Native.Nat.{ℕ, _+_, _*_, _/_, _%_, _^_, _<_}
 use mathlib.Core.Path.{_≡_, refl, sym, ap, _∙_}
 use mathlib.Core.Logic.{_↔_}

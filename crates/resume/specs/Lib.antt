@@ -1,2 +1,3 @@
 pub mod Resumed
 pub mod Looks
+pub mod Examples

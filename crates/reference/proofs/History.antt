@@ -45,7 +45,7 @@ module _ (g : Geometry) where
   history-keeps = together (onTables g) (onArray g) shape _ _ (Begun g) call-keeps
 
 -- arrays with equal tables are equal: the store tells every entry
-pub array-told : (g : Geometry) (t : Tables) (es fs : Array) → Begun g t es → Begun g t fs → es ≡ fs
+array-told : (g : Geometry) (t : Tables) (es fs : Array) → Begun g t es → Begun g t fs → es ≡ fs
 array-told g t es fs p q =
     ext-getD empty es fs (p .sound .long ∙ sym (q .sound .long)) (λ a l. sym (told es p a) ∙ told fs q a)
   where
@@ -53,7 +53,7 @@ array-told g t es fs p q =
     told es b a = rw (b .tables) (store-entry g (facts g (b .is-valid)) es (b .sound) a)
 
 -- the plain array refuses with 2, 3 and 4 alone
-pub array-numbers : (g : Geometry) (c : Call (List ℕ)) (n : ℕ) → FirstApplies (arrayRefusals g (shape c)) n → Later g c n
+array-numbers : (g : Geometry) (c : Call (List ℕ)) (n : ℕ) → FirstApplies (arrayRefusals g (shape c)) n → Later g c n
 unfolding arrayRefusals shape badMatches
 array-numbers g c n f = given-says _ (arrayRefusals g (shape c)) n (each c) (first-refusal _ n f)
   where

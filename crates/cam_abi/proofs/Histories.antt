@@ -6,10 +6,11 @@ use Rattle.reference.specs.Tables.{Tables}
 use Rattle.reference.specs.Resume.{resumeStep}
 use Rattle.reference.proofs.Refused.{matches-after}
 use Rattle.reference.proofs.Resume.{resume-begins, begun-resumes, begun-shows}
-use Rattle.memory.specs.Runs.{Run, Made, lastTables, ClearsBegin, ChainsFollow, ChainsBegin, ChainsRefuse, ChainsTell}
+use Rattle.resume.proofs.Beginning.{code-begun-resumes}
+use Rattle.memory.specs.Runs.{Run, Made, lastTables, arrayAfterRuns, ClearsBegin, ChainsFollow, ChainsBegin, ChainsRefuse, ChainsTell}
 use Rattle.memory.proofs.CodeHistory.{Steps, made-steps, chain-clear-begins, chain-follows, chain-begins, chain-refuses, chains-tell, code-history-begins}
 use Rattle.cam_abi.specs.Codes.{told, resumeTold}
-use Rattle.cam_abi.specs.Histories.{Called, by-number, made, ResumesBegin, ChainsResume}
+use Rattle.cam_abi.specs.Histories.{Called, by-number, made, ResumesBegin, ChainsResumeCode, ChainsResume}
 use Rattle.cam_abi.proofs.Told.{number-tells, resume-tells}
 
 called-steps : (g : Geometry) (t : Tables) (x : Run) → Called g t x → Steps g t x
@@ -38,16 +39,12 @@ module _ (g : Geometry) where
   unfolding resumeStep
   c-resume-begins t after n k ok = rw (k .tables) (resume-begins g t (sym (resume-tells g t) ∙ ap resumeTold (sym (k .number)) ∙ ok))
 
--- after a chain of any links
-chain-resumes : {Link : Tables → Run → Type 0} (g : Geometry) → ChainsBegin g Link → ChainsResume g Link
-unfolding resumeStep
-chain-resumes g begins t es b xs chain after n k =
-    let c = begins t es b xs chain in
-    (ap resumeTold (k .number) ∙ resume-tells g (lastTables t xs) ∙ begun-resumes g _ _ c, k .tables, rw (k .tables) (begun-shows g _ _ c))
-
-module _ (g : Geometry) where
-  pub code-resume-after : ChainsResume g (Made g)
-  code-resume-after = chain-resumes g (code-history-begins g)
+  -- after a chain
+  pub code-resume-after : ChainsResumeCode g (Made g)
+  code-resume-after t es b xs chain r s i left e = code-begun-resumes g s i r e (arrayAfterRuns g es xs) (rw left (code-history-begins g t es b xs chain))
 
   pub c-resume-after : ChainsResume g (Called g)
-  c-resume-after = chain-resumes g (c-history-begins g)
+  unfolding resumeStep
+  c-resume-after t es b xs chain after n k =
+      let c = c-history-begins t es b xs chain in
+      (ap resumeTold (k .number) ∙ resume-tells g (lastTables t xs) ∙ begun-resumes g _ _ c, k .tables, rw (k .tables) (begun-shows g _ _ c))

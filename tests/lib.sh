@@ -35,6 +35,21 @@ copy_up_to() {
     done
 }
 
+# proved CRATE: proves it where that is needed. Never two of rt at once in this folder, since they would write the same files: the
+# lock is that of tools/run.
+proved() {
+    mkdir -p target && flock target/run.lock rt check "$1"
+}
+
+# library: builds the static library, but where it stands already and what it was built from has not changed.
+library() {
+    local built=target/staticlib/stamp
+    proved cam_abi || return
+    if ! cmp -s target/stamp/cam_abi "$built" || [ ! -e target/staticlib/libcam_abi.a ]; then
+        flock target/run.lock rt staticlib cam_abi && cp target/stamp/cam_abi "$built"
+    fi
+}
+
 total() {
     echo "$passed passed, $failed failed"
     [ "$failed" = 0 ]

@@ -9,9 +9,9 @@ use Rattle.reference.proofs.Resume.{resume-begins, begun-resumes, begun-shows}
 use Rattle.resume.proofs.Beginning.{code-begun-resumes}
 use Rattle.memory.specs.Runs.{Run, Made, lastTables, arrayAfterRuns, ClearsBegin, ChainsFollow, ChainsBegin, ChainsRefuse, ChainsTell}
 use Rattle.memory.proofs.CodeHistory.{Steps, made-steps, chain-clear-begins, chain-follows, chain-begins, chain-refuses, chains-tell, code-history-begins}
-use Rattle.cam_abi.specs.Codes.{told, resumeTold}
+use Rattle.codes.specs.Codes.{told, resumeTold}
 use Rattle.cam_abi.specs.Histories.{Called, by-number, made, ResumesBegin, ChainsResumeCode, ChainsResume}
-use Rattle.cam_abi.proofs.Told.{number-tells, resume-tells}
+use Rattle.codes.proofs.Told.{number-tells, resume-tells}
 
 called-steps : (g : Geometry) (t : Tables) (x : Run) → Called g t x → Steps g t x
 called-steps g t x (by-number c n after m k) =

@@ -1,5 +1,1 @@
-pub mod Coding
-pub mod Told
 pub mod Histories
-pub mod Sizing
-pub mod Examples

@@ -13,7 +13,7 @@ use Rattle.calls.specs.Answers.{tables}
 use Rattle.resume.specs.declared.Resumed.{Resumed}
 use Rattle.resume.specs.Resumed.{refusalFor, gone}
 use Rattle.memory.specs.Runs.{Run, Made, Chain, lastTables, arrayAfterRuns}
-use Rattle.cam_abi.specs.Codes.{told, Coded, resumeTold, ResumeCoded}
+use Rattle.codes.specs.Codes.{told, Coded, resumeTold, ResumeCoded}
 
 -- A run on the tables t: an exported function, of which is known what it ensures, its answer being what the number gives
 -- back; or a call of `memory`.

@@ -1,7 +1,3 @@
-pub mod Turns
-pub mod Covered
-pub mod Exceeding
-pub mod Stale
 pub mod Looks
 pub mod Outcomes
 pub mod Beginning

@@ -30,9 +30,10 @@ use Rattle.reference.specs.Image.{entryRows, covers, storeCover}
 use Rattle.reference.specs.Steps.{badEntry}
 use Rattle.reference.specs.Resume.{badTables}
 use Rattle.reference.proofs.Resume.{tables-pass, shown-image}
-use Rattle.resume.specs.Looks.{isMissing, lacks, isAmiss, imageWord, wordIsStale, rowIsStale, stageIsStale, anyIsStale}
-use Rattle.resume.proofs.Covered.{past-covered}
-use Rattle.resume.proofs.Exceeding.{exceeds-not}
+use Rattle.amiss.specs.Amiss.{isMissing, lacks, isAmiss}
+use Rattle.stale.specs.Stale.{imageWord, wordIsStale, rowIsStale, stageIsStale, anyIsStale}
+use Rattle.stale.proofs.Covered.{past-covered}
+use Rattle.stale.proofs.Exceeding.{exceeds-not}
 
 module _ (g : Geometry) (f : Facts g) (t : Tables) (long : length (t .store) ≡ g .depth) (full : length (t .indicators) ≡ indicatorWords g) where
   -- a word of the image, by its row

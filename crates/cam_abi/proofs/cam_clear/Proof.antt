@@ -1,6 +1,6 @@
 -- `cam_abi::cam_clear` meets its contract, by those of `memory::clear` and `code`.
 use borrow.Author.Needs.{needs}
-use Rattle.cam_abi.proofs.Coding.{coded}
+use Rattle.codes.proofs.Coding.{coded}
 use Rattle.cam_abi.proofs.cam_clear.Statement.{statement}
 use Rattle.cam_abi.proofs.cam_clear.Tie as tie
 

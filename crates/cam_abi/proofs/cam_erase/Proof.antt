@@ -1,6 +1,6 @@
 -- `cam_abi::cam_erase` meets its contract, by those of `memory::erase` and `code`.
 use borrow.Author.Needs.{needs}
-use Rattle.cam_abi.proofs.Coding.{coded}
+use Rattle.codes.proofs.Coding.{coded}
 use Rattle.cam_abi.proofs.cam_erase.Statement.{statement}
 use Rattle.cam_abi.proofs.cam_erase.Tie as tie
 

@@ -1,6 +1,6 @@
 -- `cam_abi::cam_read` meets its contract, by those of `memory::read` and `code`.
 use borrow.Author.Needs.{needs}
-use Rattle.cam_abi.proofs.Coding.{coded}
+use Rattle.codes.proofs.Coding.{coded}
 use Rattle.cam_abi.proofs.cam_read.Statement.{statement}
 use Rattle.cam_abi.proofs.cam_read.Tie as tie
 

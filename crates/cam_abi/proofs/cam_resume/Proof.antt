@@ -1,6 +1,6 @@
 -- `cam_abi::cam_resume` meets its contract, by those of `resume::resume` and `resume_code`.
 use borrow.Author.Needs.{needs}
-use Rattle.cam_abi.proofs.Coding.{resume-coded}
+use Rattle.codes.proofs.Coding.{resume-coded}
 use Rattle.cam_abi.proofs.cam_resume.Statement.{statement}
 use Rattle.cam_abi.proofs.cam_resume.Tie as tie
 

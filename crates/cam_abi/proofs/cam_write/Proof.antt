@@ -1,6 +1,6 @@
 -- `cam_abi::cam_write` meets its contract, by those of `memory::write` and `code`.
 use borrow.Author.Needs.{needs}
-use Rattle.cam_abi.proofs.Coding.{coded}
+use Rattle.codes.proofs.Coding.{coded}
 use Rattle.cam_abi.proofs.cam_write.Statement.{statement}
 use Rattle.cam_abi.proofs.cam_write.Tie as tie
 

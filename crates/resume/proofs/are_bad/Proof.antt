@@ -6,7 +6,8 @@ use Rattle.words.specs.Rules.{any}
 use Rattle.geometry.proofs.Facts.{facts}
 use Rattle.reference.specs.Resume.{badTables}
 use Rattle.calls.specs.Answers.{tables}
-use Rattle.resume.specs.Looks.{isAmiss, anyIsStale}
+use Rattle.amiss.specs.Amiss.{isAmiss}
+use Rattle.stale.specs.Stale.{anyIsStale}
 use Rattle.resume.proofs.Looks.{looks-tell}
 use Rattle.resume.proofs.are_bad.Statement.{statement}
 use Rattle.resume.proofs.are_bad.Tie as tie

@@ -1,0 +1,4 @@
+pub mod Coding
+pub mod Told
+pub mod Sizing
+pub mod Examples

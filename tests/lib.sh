@@ -19,6 +19,19 @@ try() {
     fi
 }
 
+# says NAME STATUS WANTED COMMAND ..: the command ends with that status and prints these lines; if it does not, what it prints is shown.
+says() {
+    local name=$1 status=$2 wanted=$3
+    shift 3
+    "$@" > "$work/said" 2> "$work/errors"
+    if [ $? = "$status" ] && diff <([ -z "$wanted" ] || echo "$wanted") "$work/said"; then
+        passed=$((passed + 1))
+    else
+        echo "FAILED, $name"
+        failed=$((failed + 1))
+    fi
+}
+
 # copy_up_to CRATE: copies the crates up to this one into $work, without their must-fail edits, so that one more can be checked there.
 # What is proved already need not be proved again.
 copy_up_to() {

@@ -1,4 +1,5 @@
-// An answer as one number: below 256 it is that of a refusal; else it is 256 and the value that docs/MEMORY.md, section 12 gives.
+// An answer or a length as one number: below 256 it is that of a refusal; else it is 256 and the value that docs/MEMORY.md, section 12
+// gives. Where the exported functions take a geometry, it is made of four numbers here.
 use calls::Answer;
 use checks::Checked;
 use geometry::Geometry;

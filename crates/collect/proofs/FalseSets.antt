@@ -6,11 +6,10 @@ use mathlib.Core.Bool.{Bool, true, false, not, _&&_, and-assoc, and-false, and-e
 use mathlib.Core.List.{List, []}
 use native.Mathlib.Omega.{arith}
 use lib.Dec.{eqb}
-use borrow.Author.Count.{below-more}
 use borrow.Author.Tests.{eqb-true, eq-eqb}
 use Rattle.words.specs.Rules.{any, Nowhere}
 use Rattle.words.specs.Bits.{bit, clearBit}
-use Rattle.words.proofs.Rules.{both-ways, refuted, any-witness, any-true, any-false, any-ext, any-split}
+use Rattle.words.proofs.Rules.{both-ways, refuted, any-witness, any-true, any-false, any-ext, any-split, any-here, any-on, any-over}
 use Rattle.words.proofs.Bits.{bit-zero, bit-clear}
 use Rattle.geometry.specs.declared.Geometry.{Geometry}
 use Rattle.geometry.specs.Valid.{segmented}
@@ -92,10 +91,10 @@ module _ (g : Geometry) (store indicators : List ℕ) (key : ℕ) where
   -- w is row word j, and r the answer whether a bit of it belongs to a false set
   module _ (j w : ℕ) (r : Bool) (is : w ≡ joined g (tables [] indicators) key j) (gave : r ≡ anyFalse g store key j w) where
     pub word-false : Facts g → j < rowWords g → r ≡ true → true ≡ anyIsFalse g (tables store indicators) key
-    word-false f l e = sym (by-words f ∙ any-true (rowWords g) falseIn j l (rw is at (sym gave ∙ e)))
+    word-false f l e = any-here (rowWords g) falseIn j l (rw is at gave) e ∙ sym (by-words f)
 
     pub word-passed : (next : ℕ) → Nowhere j falseIn → r ≡ false → next ≡ j + 1 → Nowhere next falseIn
-    word-passed next before e n = rw n (below-more _ j before (rw is at (sym gave ∙ e)))
+    word-passed next before e n = any-on (rowWords g) falseIn j before (rw is at gave) e n
 
   pub no-word : Facts g → (j : ℕ) → rowWords g ≤ j → Nowhere j falseIn → false ≡ anyIsFalse g (tables store indicators) key
-  no-word f j l h = sym (by-words f ∙ any-false (rowWords g) falseIn (λ i m. h i (omega arith)))
+  no-word f j l h = any-over (rowWords g) falseIn j l h ∙ sym (by-words f)

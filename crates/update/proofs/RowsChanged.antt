@@ -1,16 +1,14 @@
 -- What the functions of `update` find in a turn of their loops and at the end of them: the rows of a pattern stage by stage,
 -- the addresses of a set one by one; and what `replace` makes of it.
-use Prim.Native.Nat.{ℕ, _+_, _*_, _/_, _%_, _<_, _≤_}
+use Prim.Native.Nat.{ℕ, _+_, _*_, _/_, _%_, _<_}
 use mathlib.Core.Path.{_≡_, sym, _∙_}
 use mathlib.Core.Bool.{Bool, true, false, cond, not, _&&_, _||_}
 use mathlib.Core.List.{List, [], _∷_}
-use native.Mathlib.Omega.{arith}
 use lib.Dec.{eqb, ltb}
 use lib.ListN.{length, set, drop}
 use borrow.Author.Tests.{eq-eqb, ne-eqb}
-use Rattle.words.specs.Rules.{member, keep, Nowhere}
+use Rattle.words.specs.Rules.{member, keep}
 use Rattle.words.specs.Bits.{setBit, clearBit, changeBit}
-use Rattle.words.proofs.Rules.{any-true, any-false}
 use Rattle.words.proofs.Bits.{length-changeBit}
 use Rattle.geometry.specs.declared.Geometry.{Geometry}
 use Rattle.geometry.specs.Valid.{valid}
@@ -127,15 +125,6 @@ module _ {g : Geometry} {store : List ℕ} {a o b : ℕ} (row : ℕ) (h : Beside
   pub covers-other : {sizes : Sizes} {w : ℕ} {x : Entry} {r : Bool} → Sized g sizes → not same ≡ true → w ≡ storeWord (tables store []) b
       → x ≡ cond (ltb w (sizes .patterns)) (pattern w) empty → r ≡ covers g x row → otherCovers g store a row o ≡ r
   covers-other {w = w} z n ew ex er = rw (← h .is, ← found, n, er, ex, entry-held z store [] b w ew)
-
-module _ (g : Geometry) (store : List ℕ) (a row o : ℕ) where
-  pub others-found : o < setLength g (setOf g a) → otherCovers g store a row o ≡ true → true ≡ othersCover g (storeCover g (tables store [])) a row
-  unfolding othersCover
-  others-found h e = sym (any-true (setLength g (setOf g a)) (otherCovers g store a row) o h e)
-
-  pub others-none : setLength g (setOf g a) ≤ o → Nowhere o (otherCovers g store a row) → false ≡ othersCover g (storeCover g (tables store [])) a row
-  unfolding othersCover
-  others-none past h = sym (any-false (setLength g (setOf g a)) (otherCovers g store a row) (λ i l. h i (omega arith)))
 
 -- ---- an entry comes to an address
 

@@ -1,18 +1,18 @@
 -- `update::others_cover` meets its contract. The invariant: at no offset before `at` is another address that covers
 -- the row.
 use Prim.Native.Nat.{_-_, _<_}
-use mathlib.Core.Path.{_∙_}
+use mathlib.Core.Path.{refl, sym, _∙_}
 use mathlib.Core.Logic.{⊎-elim}
 use native.Mathlib.Omega.{arith}
 use borrow.Author.Needs.{needs}
-use borrow.Author.Count.{below-more}
 use Rattle.words.specs.Rules.{Nowhere}
-use Rattle.words.proofs.Rules.{tested-below, tested-past}
+use Rattle.words.proofs.Rules.{tested-below, tested-past, any-here, any-on, any-over}
 use Rattle.geometry.specs.Sizes.{setLength}
 use Rattle.geometry.proofs.Facts.{facts}
 use Rattle.geometry.proofs.Places.{length-most}
+use Rattle.cover.specs.Change.{othersCover}
 use Rattle.calls.proofs.Indexed.{set-within}
-use Rattle.update.proofs.RowsChanged.{otherCovers, Beside, beside, covers-not, covers-other, others-found, others-none}
+use Rattle.update.proofs.RowsChanged.{otherCovers, Beside, beside, covers-not, covers-other}
 use Rattle.update.proofs.others_cover.Statement.{statement}
 use Rattle.update.proofs.others_cover.Tie as tie
 
@@ -54,6 +54,7 @@ looked c =
     beside _ _ _ _ _ _ (s .pre .0 .is-valid) (s .pre .1) (s .pre .2) (within (c .before)) (in-set at .set .ensures) (c .address .ensures)
 
 returns : tie.Need-returns Inv-loop μ-loop
+unfolding othersCover
 returns c =
     let e = c .before .before in
     let w = e .before in
@@ -61,9 +62,9 @@ returns c =
     let a = i .before in
     let h = looked a in
     let s = start (a .before .before .before) in
-    others-found _ (s .args .store .now) _ _ _ (h .within)
-    (covers-other _ h (i .is .ensures) (s .pre .0) (w .before .if2 .taken) (w .word .ensures) (e .entry-of .ensures) (c .before .is-covered-by .ensures)
-    ∙ c .if3 .taken)
+    any-here _ _ _ (h .within)
+    (sym (covers-other _ h (i .is .ensures) (s .pre .0) (w .before .if2 .taken) (w .word .ensures) (e .entry-of .ensures) (c .before .is-covered-by .ensures)))
+    (c .if3 .taken)
 
 next-requires : tie.Need-next-requires Inv-loop μ-loop
 next-requires c κs =
@@ -82,15 +83,15 @@ loop-again c =
     let h = looked a in
     let same = i .is .ensures in
     let z = start at .pre .0 in
-    rw (c .next .ensures)
-    (below-more _ _ (at .loop .inv)
-    (⊎-elim (λ w. covers-other _ h same z (w .0 .taken) (w .1 .ensures) (w .2 .ensures) (w .3 .ensures) ∙ w .4 .left) (λ w. covers-not _ h same (w .left))
-    (c .before .if2 .came)))
+    any-on 0 _ _ (at .loop .inv)
+    (sym (⊎-elim (λ w. covers-other _ h same z (w .0 .taken) (w .1 .ensures) (w .2 .ensures) (w .3 .ensures) ∙ w .4 .left) (λ w. covers-not _ h same (w .left)) (c .before .if2 .came)))
+    refl (c .next .ensures)
 
 returns-2 : tie.Need-returns-2 Inv-loop μ-loop
+unfolding othersCover
 returns-2 c =
     let at = c .before .before in
-    others-none _ (start at .args .store .now) _ _ _ (rw (← in-set at .set .ensures) (tested-past (c .before .is-within .ensures) (measured at .length .ensures) (c .if1 .left))) (at .loop .inv)
+    any-over _ _ _ (rw (← in-set at .set .ensures) (tested-past (c .before .is-within .ensures) (measured at .length .ensures) (c .if1 .left))) (at .loop .inv)
 
 pub others-cover-spec : {M : Type 1} → statement M
 others-cover-spec =

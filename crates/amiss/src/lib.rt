@@ -1,6 +1,8 @@
 // The first look of a resume at its tables (rule 8.12 of docs/MEMORY.md): every word of the store is empty or a pattern, and every
 // entry has its bits. What is asked is what the check of `resume` has shown: a valid geometry and its sizes, and tables of their
 // lengths. The loops show that an address and a stage are ones of the geometry.
+#![tactic(auto)]
+
 ghost use Rattle.std.specs.Prelude.{◌<◌, ◌≡◌, length};
 ghost use Rattle.words.specs.Rules.{any};
 ghost use Rattle.geometry.specs.Sizes.{sets};

@@ -2,6 +2,8 @@
 //
 // Each function writes from `at` on and gives the place after its last byte. It asks for room for its bytes: whoever prints a line
 // has room for all of it.
+#![tactic(auto)]
+
 ghost use Rattle.std.specs.Prelude.{◌+◌, ◌≤◌, map, length};
 ghost use Rattle.reference.specs.Calls.{held};
 ghost use Rattle.calls.specs.Answers.{entry_for, answer_for};

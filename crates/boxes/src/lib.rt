@@ -1,11 +1,13 @@
 // The stages of a pattern as they are drawn, a box for each (rule 4.5 of docs/MEMORY.md; docs/SLICES.md has the drawings).
+#![tactic(auto)]
+
 ghost use Rattle.std.specs.Prelude.{◌≡◌};
 ghost use Rattle.boxes.specs.Drawn.{box_of};
 
 use geometry::{CASCADED, Geometry};
 
 // The boxes from the low end of a pattern on, and the one of the kinds that do not cut it.
-#[derive(Drop)]
+#[derive(Clone, Copy)]
 pub enum StageBox {
     // Bits 0 to 8.
     LowNine,

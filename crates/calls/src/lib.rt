@@ -1,4 +1,6 @@
 // A call, the answer to it and the entries in it, as the code has them; and entries as words of the store.
+#![tactic(auto)]
+
 ghost use Rattle.std.specs.Prelude.{◌≡◌, cond, ◌||◌, eqb, ltb, length, replicate};
 ghost use Rattle.reference.specs.Entry.{empty, pattern, empty_word, word_of};
 ghost use Rattle.calls.specs.Answers.{entry_for};
@@ -7,14 +9,14 @@ use checks::Refusal;
 use places::Address;
 
 // What an address holds.
-#[derive(Drop)]
+#[derive(Clone, Copy)]
 pub enum Entry {
     Empty,
     Pattern(u32),
 }
 
 // A call, with its address and its pattern.
-#[derive(Drop)]
+#[derive(Clone, Copy)]
 pub enum Call {
     Clear,
     Write(Address, u32),
@@ -25,7 +27,7 @@ pub enum Call {
 }
 
 // What comes back (docs/MEMORY.md, section 7). `words_read` is w and `entries_compared` is c.
-#[derive(Drop)]
+#[derive(Clone, Copy)]
 pub enum Answer {
     Refused(Refusal),
     Cleared,

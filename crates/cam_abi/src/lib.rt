@@ -1,6 +1,8 @@
 // The six calls and resume for callers in C and Rust, and the lengths that they ask for. A geometry is passed as its four numbers, a
 // slice as its pointer and its length in elements. What comes back is one number, made by `codes`: below 256 it is that of a refusal,
 // which changed nothing; else it is 256 and the value that stands at each function.
+#![tactic(auto)]
+
 ghost use Rattle.std.specs.Prelude.{◌≡◌, []};
 ghost use Rattle.geometry.specs.Sizes.{match_words};
 ghost use Rattle.geometry.specs.Stages.{indicator_words};

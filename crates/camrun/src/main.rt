@@ -1,5 +1,7 @@
 // Runs the job on standard input and prints its report. Everything that matters is in `job`: this reads, calls it once, and
 // writes. A program has no status of its own, so a line on standard error tells what failed.
+#![tactic(auto)]
+
 use libc::{STDERR_FILENO, STDIN_FILENO, STDOUT_FILENO};
 use streams::Input;
 

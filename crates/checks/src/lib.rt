@@ -1,5 +1,7 @@
 // The rows of the table of refusals (rule 9.1 of docs/MEMORY.md) that a call tests before it looks at its tables. A row more is
 // one `and_row` by a test; the checks here are its uses.
+#![tactic(auto)]
+
 ghost use Rattle.std.specs.Prelude.{◌≡◌};
 ghost use Rattle.checks.specs.Checks.{number_of, checked, checked_tables, checked_matches, sizes_in, and_row, and_pattern};
 
@@ -7,7 +9,7 @@ use geometry::Geometry;
 use sizes::Sizes;
 
 // Why a call stops: a row of its table.
-#[derive(Drop)]
+#[derive(Clone, Copy)]
 pub enum Refusal {
     BadGeometry,
     BadLengths,
@@ -36,7 +38,7 @@ impl Refusal {
 }
 
 // What a check gives.
-#[derive(Drop)]
+#[derive(Clone, Copy)]
 pub enum Checked {
     Accepted(Sizes),
     Refused(Refusal),

@@ -1,5 +1,7 @@
 // An answer or a length as one number: below 256 it is that of a refusal; else it is 256 and the value that docs/MEMORY.md, section 12
 // gives. Where the exported functions take a geometry, it is made of four numbers here.
+#![tactic(auto)]
+
 ghost use Rattle.std.specs.Prelude.{◌≡◌, []};
 ghost use Rattle.geometry.specs.Sizes.{match_words};
 ghost use Rattle.geometry.specs.Stages.{indicator_words};
@@ -60,7 +62,7 @@ pub fn resume_code(answer: Resumed) -> u64
 }
 
 // The number for each length that a geometry asks for.
-#[derive(Drop)]
+#[derive(Clone, Copy)]
 pub struct Lengths {
     pub indicators: u64,
     pub matches: u64,

@@ -2,6 +2,8 @@
 // docs/MEMORY.md). What the functions here ask is what the check of the call has shown: a valid geometry and its sizes, tables
 // and a match word of their lengths. That a set is one of the geometry's follows from the joined word, which has no bit of
 // padding.
+#![tactic(auto)]
+
 ghost use Rattle.std.specs.Prelude.{◌+◌, ◌*◌, ◌<◌, ◌≡◌, true, ◌&&◌, [], eqb, length};
 ghost use Rattle.words.specs.Rules.{any};
 ghost use Rattle.words.specs.Bits.{bit};

@@ -1,4 +1,6 @@
 // The run of one command: its call on the tables, and its line.
+#![tactic(auto)]
+
 ghost use Rattle.std.specs.Prelude.{◌+◌, ◌≤◌, length};
 ghost use Rattle.calls.specs.Answers.{tables};
 ghost use Rattle.report.specs.Lines.{answer_line};

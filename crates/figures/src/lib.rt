@@ -2,6 +2,8 @@
 //
 // Each function writes from `at` on and gives the place after its last byte. It asks for room for its bytes: whoever prints a line
 // has room for all of it.
+#![tactic(auto)]
+
 ghost use Rattle.std.specs.Prelude.{◌+◌, ◌≤◌, ◌++◌, length};
 ghost use Rattle.figures.specs.Figures.{ascii, decimal, hexadecimal};
 ghost use Rattle.figures.specs.Appended.{Appended};

@@ -1,4 +1,6 @@
 // The run of a job, which prints its report into a lent buffer.
+#![tactic(auto)]
+
 ghost use Rattle.std.specs.Prelude.{length};
 ghost use Rattle.io.specs.Counts.{IsPrefixLen};
 ghost use Rattle.calls.specs.Answers.{tables};

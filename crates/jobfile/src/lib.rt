@@ -1,5 +1,7 @@
 // Job files: their header and commands, what stops a whole file, and the call that a command asks for (docs/MEMORY.md,
 // section 13).
+#![tactic(auto)]
+
 ghost use Rattle.std.specs.Prelude.{◌+◌, ◌≤◌, ◌≡◌, length};
 ghost use Rattle.std.proofs.Math.Option.{some};
 ghost use Rattle.calls.specs.Answers.{call_for};
@@ -14,7 +16,7 @@ use places::Address;
 use sizes::Sizes;
 
 // The six fields of a header.
-#[derive(Drop)]
+#[derive(Clone, Copy)]
 pub struct Header {
     pub geometry: Geometry,
     // How many commands there are.
@@ -24,7 +26,7 @@ pub struct Header {
 }
 
 // The three fields of a command.
-#[derive(Drop)]
+#[derive(Clone, Copy)]
 pub struct Command {
     operation: u32,
     address: u32,
@@ -32,7 +34,7 @@ pub struct Command {
 }
 
 // Why a whole file is stopped.
-#[derive(Drop)]
+#[derive(Clone, Copy)]
 pub enum Stop {
     BadFile,
     BadGeometry,
@@ -40,14 +42,14 @@ pub enum Stop {
 }
 
 // A file that passed its checks, or its stop.
-#[derive(Drop)]
+#[derive(Clone, Copy)]
 pub enum Opened {
     Job(Header, Sizes),
     Stopped(Stop),
 }
 
 // The call that a command asks for: none, where number 8 stops it (rule 13.7).
-#[derive(Drop)]
+#[derive(Clone, Copy)]
 pub enum Decoded {
     Asks(Call),
     Nothing,

@@ -1,5 +1,7 @@
 // The six calls and the line, over lent tables (docs/MEMORY.md, sections 7 to 9 and 11). Each gives the answer of its step in
 // `reference` and leaves its tables, for every input: any geometry, tables of any length and content.
+#![tactic(auto)]
+
 ghost use Rattle.std.specs.Prelude.{◌≡◌, []};
 ghost use Rattle.reference.specs.Calls.{clear, write, erase, read, first_match, all_match};
 ghost use Rattle.reference.specs.Steps.{step};

@@ -4,6 +4,8 @@
 // number and hands out its own for an answer (`Address::new`, `number`), a set takes a caller's number for the line
 // (`SetIndex::from_caller`), and a set's length hands out its own for a count (`SetLength::entries`); tests/types_apart says
 // which files may use these. What no type tells apart are the words of a row and those of a match word.
+#![tactic(auto)]
+
 ghost use Rattle.std.specs.Prelude.{◌+◌, ◌*◌, ◌/◌, ◌%◌, ◌<◌, ◌≡◌, true, eqb, leb, ltb, length, get_or, set};
 ghost use Rattle.std.specs.Int.Count.{count_trailing_zeros};
 ghost use Rattle.words.specs.Bits.{bit, set_bit, clear_bit, change_bit, row_mask};
@@ -16,23 +18,23 @@ use geometry::Geometry;
 use sizes::Sizes;
 
 // An address, as it comes from a caller or from the rule.
-#[derive(Drop)]
+#[derive(Clone, Copy)]
 pub struct Address(u32);
 
 // The number of a set.
-#[derive(Drop)]
+#[derive(Clone, Copy)]
 pub struct SetIndex(u32);
 
 // Where an address stands in its set, counted from the set's first.
-#[derive(Drop)]
+#[derive(Clone, Copy)]
 pub struct Offset(u32);
 
 // How many addresses a set has. Only a set gives it, only an offset is tested against it, and only a count is made of it.
-#[derive(Drop)]
+#[derive(Clone, Copy)]
 pub struct SetLength(u16);
 
 // Which word of a row: it steps on from the first.
-#[derive(Drop)]
+#[derive(Clone, Copy)]
 pub struct RowWord(usize);
 
 impl Address {

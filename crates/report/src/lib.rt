@@ -2,6 +2,8 @@
 //
 // Each function writes from `at` on and gives the place after its last byte. It asks for room for its bytes: whoever runs a
 // job shows that no job prints more than its buffer holds.
+#![tactic(auto)]
+
 ghost use Rattle.std.specs.Prelude.{◌+◌, ◌≤◌, length};
 ghost use Rattle.reference.specs.Calls.{refused};
 ghost use Rattle.calls.specs.Answers.{answer_for};

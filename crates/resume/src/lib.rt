@@ -1,6 +1,8 @@
 // Resume: whether a history can go on with tables that stand already (rules 7.7 and 8.12 of docs/MEMORY.md), by two looks at them
 // that make no image: every entry is sound and has its bits (`amiss`), and every bit that is 1 has an entry of its set that covers its
 // row (`stale`). So the time grows with the words of the indicators, and with the entries times those of a set.
+#![tactic(auto)]
+
 ghost use Rattle.std.specs.Prelude.{◌≡◌, length};
 ghost use Rattle.reference.specs.Resume.{bad_tables, resume_step};
 ghost use Rattle.checks.specs.Passed.{Lent};
@@ -12,7 +14,7 @@ use geometry::Geometry;
 use sizes::Sizes;
 
 // What comes back.
-#[derive(Drop)]
+#[derive(Clone, Copy)]
 pub enum Resumed {
     Accepted,
     Refused(Refusal),

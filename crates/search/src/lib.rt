@@ -1,6 +1,8 @@
 // The search of first-match, and the joined word that both matches look at (docs/MEMORY.md, section 8). What the functions here
 // ask is what the check of the call has shown: a valid geometry and its sizes, and tables of their lengths. The loops over row
 // words show that a word is one of the row.
+#![tactic(auto)]
+
 ghost use Rattle.std.specs.Prelude.{◌<◌, ◌≡◌, [], length};
 ghost use Rattle.geometry.specs.Sizes.{row_words};
 ghost use Rattle.reference.specs.Search.{joined, first_found, answer_of};
@@ -29,7 +31,7 @@ pub fn joined(g: Geometry, sizes: Sizes, indicators: &[u64], key: u32, j: RowWor
 }
 
 // Where the search of the row words stops.
-#[derive(Drop)]
+#[derive(Clone, Copy)]
 enum Stop {
     // A row word that is not 0, or 0 past the last one; which it is, and the words read. Where a set is an address, that tells
     // the rest.

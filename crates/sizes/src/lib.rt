@@ -2,6 +2,8 @@
 //
 // What follows from a valid geometry asks for one: the check of a call tests that before it calls these functions. Where a
 // stage is asked for, `rows` shows that the last is one, and who calls `row`, `stage` or `stage_rows` that its own is.
+#![tactic(auto)]
+
 ghost use Rattle.std.specs.Prelude.{◌^◌, ◌<◌, ◌≡◌, true};
 ghost use Rattle.geometry.specs.Valid.{between, segmented_rule, kind_rule, valid};
 ghost use Rattle.geometry.specs.Sizes.{sets, row_words};
@@ -12,7 +14,7 @@ use boxes::StageBox;
 use geometry::{CASCADED, Geometry, SEGMENTED, TRANSPOSED};
 
 // What follows from a geometry that passed its check.
-#[derive(Drop)]
+#[derive(Clone, Copy)]
 pub struct Sizes {
     // The patterns are the numbers below this one.
     pub patterns: u32,

@@ -3,6 +3,8 @@
 // words of the indicators, and for each bit that is 1 with the entries of a set. What is asked is what the check of `resume` has shown:
 // a valid geometry and its sizes, and tables of their lengths. The loops show that a stage, a value of a stage and a row word are ones
 // of the geometry.
+#![tactic(auto)]
+
 ghost use Rattle.std.specs.Prelude.{◌+◌, ◌*◌, ◌^◌, ◌<◌, ◌≤◌, ◌≡◌, [], length};
 ghost use Rattle.geometry.specs.Sizes.{row_words};
 ghost use Rattle.geometry.specs.Stages.{stages, stage_width};

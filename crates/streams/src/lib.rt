@@ -1,12 +1,14 @@
 // Reading and writing to the end, where a failure is told from the end: the toolchain's `io::read_full` gives a short count for
 // both.
+#![tactic(auto)]
+
 ghost use Rattle.std.specs.Prelude.{◌-◌, ◌≤◌, length};
 ghost use Rattle.streams.specs.Judged.{Tells, Within, Taken};
 
 use libc::{EAGAIN, EINTR};
 
 // What one call of `read` or `write` came to.
-#[derive(Drop)]
+#[derive(Clone, Copy)]
 enum Told {
     Moved(usize),
     Ended,
@@ -16,7 +18,7 @@ enum Told {
 }
 
 // What was read of an input.
-#[derive(Drop)]
+#[derive(Clone, Copy)]
 pub enum Input {
     Whole(usize),
     Failed,

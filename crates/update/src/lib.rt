@@ -1,6 +1,8 @@
 // How write and erase change the tables: another entry comes to an address, and the bits of its set follow (rules 8.2 and 8.4 of
 // docs/MEMORY.md). What the functions here ask is what the check of the call has shown: a valid geometry and its sizes, tables
 // of their lengths, an address below the depth.
+#![tactic(auto)]
+
 ghost use Rattle.std.specs.Prelude.{◌<◌, ◌≡◌, [], length};
 ghost use Rattle.words.specs.Rules.{keep};
 ghost use Rattle.words.specs.Bits.{set_bit, clear_bit};

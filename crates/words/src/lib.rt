@@ -1,4 +1,6 @@
 // Bits of 64-bit words and of slices of words. Nothing here knows of memories.
+#![tactic(auto)]
+
 ghost use Rattle.std.specs.Prelude.{◌<◌, ◌≤◌, ◌≡◌, length, replicate};
 ghost use Rattle.std.specs.Int.Count.{count_trailing_zeros};
 ghost use Rattle.words.specs.Rules.{count};

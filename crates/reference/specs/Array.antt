@@ -1,7 +1,6 @@
 -- The plain array (docs/MEMORY.md, section 5): D entries and the six calls on them. It knows the geometry, and nothing of
 -- tables, rows or searches.
 use Rattle.std.specs.Prelude.{ℕ, ◌+◌, ◌*◌, ◌/◌, ◌≡◌, Bool, cond, not, List, [], ◌∷◌, eqb, length, get_or, set, replicate}
-use Rattle.std.proofs.Math.Option as Option
 use Rattle.std.proofs.Math.Option.{Option}
 use Rattle.words.specs.Rules.{count, lowest}
 use Rattle.words.specs.Bits.{bit_words}

@@ -2,7 +2,6 @@
 -- tables that do or do not mirror their store as rows of a third, and what resumes come to as rows of a fourth. proofs/Cases.antt
 -- computes all four.
 use Rattle.std.specs.Prelude.{ℕ, ◌/◌, ◌%◌, Bool, true, false, cond, not, ◌&&◌, List, [], ◌∷◌, eqb, length, set, replicate}
-use Rattle.std.proofs.Math.Option as Option
 use Rattle.std.proofs.Math.Option.{Option}
 use Rattle.words.specs.Rules.{any}
 use Rattle.geometry.specs.declared.Geometry.{Geometry}

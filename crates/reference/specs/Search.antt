@@ -1,7 +1,6 @@
 -- The searches of both matches on any tables (docs/MEMORY.md, section 8).
 use Rattle.std.specs.Prelude.{ℕ, ◌+◌, ◌*◌, ◌/◌, ◌%◌, Bool, true, false, not, ◌&&◌, ◌||◌, eqb, ltb, length, get_or}
 use mathlib.Core.List.{List, foldr}
-use Rattle.std.proofs.Math.Option as Option
 use Rattle.std.proofs.Math.Option.{Option}
 use Rattle.std.specs.Int.Bits.{bit_and}
 use Rattle.std.specs.Int.Count.{count_trailing_zeros}

@@ -1,6 +1,5 @@
 -- The six calls on any tables: any geometry, any lengths, any content (docs/MEMORY.md, sections 8 and 9).
 use Rattle.std.specs.Prelude.{ℕ, Bool, false, not, ◌||◌, List, [], ◌∷◌, eqb, ltb, length, replicate}
-use Rattle.std.proofs.Math.Option as Option
 use Rattle.std.proofs.Math.Option.{Option}
 use Rattle.words.specs.Bits.{total_ones}
 use Rattle.machines.specs.Refusals.{RefusalRow, ◌given-when◌, first_refusal}

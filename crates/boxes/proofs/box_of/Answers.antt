@@ -1,7 +1,6 @@
 -- `boxes::box_of` meets its contract, by the tests that lead to each box.
 use Rattle.std.proofs.Common.{◌≡◌, rules}
 use borrow.Author.Tests.{eq-eqb, ne_eqb}
-use Rattle.boxes.specs.Drawn.{nine, box_of}
 use Rattle.boxes.proofs.Drawn.{box-nine, box-narrow, box-whole}
 use Rattle.boxes.proofs.box_of.Goals as goal
 

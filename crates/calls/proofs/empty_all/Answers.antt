@@ -1,5 +1,4 @@
 -- `calls::empty_all` meets its contract: the addresses before i are empty.
-use Prim.Native.Nat.{◌-◌}
 use borrow.Author.Rules.{rules}
 use Rattle.words.proofs.Fill.{fill_step, fill_end}
 use Rattle.reference.specs.Entry.{empty_word}

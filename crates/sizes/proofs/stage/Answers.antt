@@ -4,7 +4,6 @@ use lib.Pow.{pow_pos}
 use Rattle.words.proofs.Machine.{shifted_one}
 use Rattle.geometry.specs.declared.Geometry.{Geometry}
 use Rattle.geometry.specs.Valid.{valid}
-use Rattle.geometry.specs.Stages.{stage}
 use Rattle.boxes.specs.Drawn.{boxed}
 use Rattle.geometry.proofs.Facts.{facts}
 use Rattle.boxes.proofs.Drawn.{box-stage}

@@ -1,5 +1,5 @@
 -- `places::SetIndex::line` meets its contract: the part from the set's first address on, as long as the set.
-use Rattle.std.proofs.Common.{◌-◌, ◌*◌, ◌≡◌, ◌∙◌, arith}
+use Rattle.std.proofs.Common.{◌-◌, ◌≡◌, ◌∙◌, arith}
 use native.Mathlib.Nat.{add-sub_cancel_left, mul_comm}
 use Rattle.geometry.specs.Sizes.{address_of, set_length}
 use Rattle.geometry.proofs.Facts.{facts}

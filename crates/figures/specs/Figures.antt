@@ -1,7 +1,6 @@
 -- Texts and figures as bytes.
 use Rattle.std.specs.Prelude.{ℕ, zero, suc, ◌/◌, true, false, List, [], ◌∷◌, ltb}
 use Prim.Native.Char.{code}
-use Prim.Native.String as String
 use Prim.Native.String.{String}
 use Rattle.io.specs.Digits.{last_digits}
 

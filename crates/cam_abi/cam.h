@@ -1,4 +1,4 @@
-/* The search memory in libcam_abi.a (`rt staticlib cam_abi`): its six calls, one that accepts tables to go on with, and two
+/* The search memory in libcam_abi.a (`tools/build library`): its six calls, one that accepts tables to go on with, and two
  * functions that give the lengths of what is lent.
  *
  * GEOMETRY. Four numbers: the kind, 0 for transposed, 1 for cascaded and 2 for segmented; the depth, 1 to 4096; the pattern width,

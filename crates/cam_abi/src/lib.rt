@@ -1,6 +1,6 @@
-// The six calls and resume for callers in C and Rust, and the lengths that they ask for. A geometry is passed as its four numbers, a
-// slice as its pointer and its length in elements. What comes back is one number, made by `codes`: below 256 it is that of a refusal,
-// which changed nothing; else it is 256 and the value that stands at each function.
+// The six calls and resume as callers in C and Rust have them, and the lengths that they ask for; `cam_abi_c` exports these functions. A
+// geometry is passed as its four numbers. What comes back is one number, made by `codes`: below 256 it is that of a refusal, which
+// changed nothing; else it is 256 and the value that stands at each function.
 #![tactic(auto)]
 
 ghost use Rattle.std.specs.Prelude.{◌≡◌, []};
@@ -14,29 +14,21 @@ use codes::{code, four, lengths_of, resume_code};
 use places::Address;
 
 // The value is the number of words of the indicators.
-#[unsafe(no_mangle)]
-pub extern "C" fn cam_indicator_words(
-    kind: u32,
-    depth: u32,
-    pattern_width: u32,
-    set_width: u32,
-) -> u64
+pub fn cam_indicator_words(kind: u32, depth: u32, pattern_width: u32, set_width: u32) -> u64
     ensures { result ≡ size_code (four kind depth pattern_width set_width) indicator_words }
 {
     lengths_of(four(kind, depth, pattern_width, set_width)).indicators
 }
 
 // The value is the number of words of a match word.
-#[unsafe(no_mangle)]
-pub extern "C" fn cam_match_words(kind: u32, depth: u32, pattern_width: u32, set_width: u32) -> u64
+pub fn cam_match_words(kind: u32, depth: u32, pattern_width: u32, set_width: u32) -> u64
     ensures { result ≡ size_code (four kind depth pattern_width set_width) match_words }
 {
     lengths_of(four(kind, depth, pattern_width, set_width)).matches
 }
 
 // Whether a history can go on with the tables. The value is 0.
-#[unsafe(no_mangle)]
-pub extern "C" fn cam_resume(
+pub fn cam_resume(
     kind: u32,
     depth: u32,
     pattern_width: u32,
@@ -51,8 +43,7 @@ pub extern "C" fn cam_resume(
 }
 
 // Empties every address. The value is 0.
-#[unsafe(no_mangle)]
-pub extern "C" fn cam_clear(
+pub fn cam_clear(
     kind: u32,
     depth: u32,
     pattern_width: u32,
@@ -67,8 +58,7 @@ pub extern "C" fn cam_clear(
 }
 
 // The pattern comes to the address. The value is the word that the store had there, 0xffff_ffff for empty.
-#[unsafe(no_mangle)]
-pub extern "C" fn cam_write(
+pub fn cam_write(
     kind: u32,
     depth: u32,
     pattern_width: u32,
@@ -85,8 +75,7 @@ pub extern "C" fn cam_write(
 }
 
 // Empties the address. The value is the word that the store had there, 0xffff_ffff for empty.
-#[unsafe(no_mangle)]
-pub extern "C" fn cam_erase(
+pub fn cam_erase(
     kind: u32,
     depth: u32,
     pattern_width: u32,
@@ -102,8 +91,7 @@ pub extern "C" fn cam_erase(
 }
 
 // The value is the word that the store has at the address, 0xffff_ffff for empty.
-#[unsafe(no_mangle)]
-pub extern "C" fn cam_read(
+pub fn cam_read(
     kind: u32,
     depth: u32,
     pattern_width: u32,
@@ -120,8 +108,7 @@ pub extern "C" fn cam_read(
 
 // The value is the lowest address that holds the pattern, or 65,535 for none, and with it 65,536 times the words read and
 // 2^32 times the entries compared.
-#[unsafe(no_mangle)]
-pub extern "C" fn cam_first_match(
+pub fn cam_first_match(
     kind: u32,
     depth: u32,
     pattern_width: u32,
@@ -137,8 +124,7 @@ pub extern "C" fn cam_first_match(
 }
 
 // The bit of each address that holds the pattern is set in the match word, every other one is 0. The value is their number.
-#[unsafe(no_mangle)]
-pub extern "C" fn cam_all_match(
+pub fn cam_all_match(
     kind: u32,
     depth: u32,
     pattern_width: u32,

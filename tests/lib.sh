@@ -33,35 +33,23 @@ says() {
 }
 
 # copy_up_to CRATE: copies the crates up to this one into $work, without their must-fail edits, so that one more can be checked there.
-# What is proved already need not be proved again.
+# A library that is built already need not be proved again: rt takes what stands in out/rlib where it was made of the same.
 copy_up_to() {
-    local crate
-    mkdir -p "$work/crates" "$work/target/rlib" "$work/target/stamp"
-    sed "/^$1:/q" crates.txt > "$work/crates.txt"
-    for crate in $(sed -n 's/^\(\w*\):.*/\1/p' "$work/crates.txt"); do
-        cp -r "crates/$crate" "$work/crates/"
-        rm -rf "$work/crates/$crate/must-fail"
-        if [ -e "target/stamp/$crate" ] && [ -e "target/rlib/$crate.rlib" ]; then
-            cp -r "target/rlib/$crate.rlib" "$work/target/rlib/"
-            cp "target/stamp/$crate" "$work/target/stamp/"
-        fi
+    local crate part
+    mkdir -p "$work/crates"
+    sed "/^$1[ :]/q" crates.txt > "$work/crates.txt"
+    for crate in $(sed -n 's/^\(\w\+\)[ :].*/\1/p' "$work/crates.txt"); do
+        for part in src specs proofs stdin stdout out/rlib; do
+            if [ ! -e "crates/$crate/$part" ]; then continue; fi
+            mkdir -p "$(dirname "$work/crates/$crate/$part")"
+            cp -r "crates/$crate/$part" "$work/crates/$crate/$part"
+        done
     done
 }
 
-# proved CRATE: proves it where that is needed. Never two of rt at once in this folder, since they would write the same files: the
-# lock is that of tools/run.
-proved() {
-    mkdir -p target && flock target/run.lock rt check "$1"
-}
-
-# library: builds the static library, but where it stands already and what it was built from has not changed.
-library() {
-    local built=target/staticlib/stamp
-    proved cam_abi || return
-    if ! cmp -s target/stamp/cam_abi "$built" || [ ! -e target/staticlib/libcam_abi.a ]; then
-        flock target/run.lock rt staticlib cam_abi && cp target/stamp/cam_abi "$built"
-    fi
-}
+# What tools/build proves and builds: `library` and `camrun`.
+archive=target/staticlib/libcam_abi.a
+camrun=target/bin/camrun
 
 total() {
     echo "$passed passed, $failed failed"

@@ -1,4 +1,4 @@
-//! Links the proved library, which the Rattle toolchain writes to the repository's target folder.
+//! Links the proved library, which tools/build puts into the repository's target folder.
 
 use std::env;
 use std::path::PathBuf;
@@ -17,7 +17,7 @@ fn main() {
     println!("cargo:rerun-if-changed={}", archive.display());
     if !archive.is_file() {
         eprintln!("{} is not there.", archive.display());
-        eprintln!("Run `rt staticlib cam_abi` at the root of the repository first,");
+        eprintln!("Run `tools/build library` at the root of the repository first,");
         eprintln!("or name the folder that has libcam_abi.a in CAM_LIB_DIR.");
         exit(1);
     }

@@ -36,7 +36,7 @@ pub fn is_there(program: &Path) -> Result<(), String> {
     match program.is_file() {
         true => Ok(()),
         false => Err(format!(
-            "{} is not there.\nRun `rt check camrun` at the root of the repository first, \
+            "{} is not there.\nRun `tools/build camrun` at the root of the repository first, \
              or name the program with --camrun.",
             program.display()
         )),

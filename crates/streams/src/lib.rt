@@ -1,11 +1,13 @@
-// Reading and writing to the end, where a failure is told from the end: the toolchain's `io::read_full` gives a short count for
-// both.
+// Reading and writing to the end, where a failure is told from the end, and calls that pass by are made again: `read_to_end` of
+// `std` takes a call that would have to wait as failed.
 #![tactic(auto)]
 
-ghost use Rattle.std.specs.Prelude.{◌-◌, ◌≤◌, length};
-ghost use Rattle.streams.specs.Judged.{Tells, Within, Taken};
+ghost use Rattle.std.specs.Prelude.{◌≡◌, ◌-◌, ◌≤◌, length, take, drop};
+ghost use Rattle.std.specs.Io.KnownBytes.{Appends};
+ghost use Rattle.streams.specs.Judged.{Tells, Within, Taken, Gives, Takes, GivesWhole};
 
-use libc::{EAGAIN, EINTR};
+use std::io::{ErrorKind, Read, Write};
+use std::{io, thread};
 
 // What one call of `read` or `write` came to.
 #[derive(Clone, Copy)]
@@ -27,56 +29,48 @@ pub enum Input {
 // How often a call is made again in one reading or writing, all in all: a proved loop has to end. It is a minute or two of waiting.
 const PATIENCE: u64 = 100_000_000;
 
-// `moved` is the number of bytes, 0 where the call failed; `error` is what the system gave as the cause, if it did.
-fn judge(got: isize, moved: usize, error: i32) -> Told
-    ensures { Tells result got moved error }
+// A call answers with the number of bytes, or with the cause that the system gave.
+fn judge(answer: io::Result<usize>) -> Told
+    ensures { Tells result answer }
 {
-    if moved > 0 {
-        return Told::Moved(moved);
+    match answer {
+        Ok(0) => Told::Ended,
+        Ok(moved) => Told::Moved(moved),
+        Err(cause) => match cause.kind() {
+            ErrorKind::Interrupted | ErrorKind::WouldBlock => Told::Again,
+            _ => Told::Failed,
+        },
     }
-    if got == 0 {
-        return Told::Ended;
-    }
-    if error == EINTR {
-        return Told::Again;
-    }
-    if error == EAGAIN {
-        return Told::Again;
-    }
-    Told::Failed
 }
 
 // One read into `buf` from `at` on.
-fn read_some(fd: i32, buf: &mut [u8], at: usize) -> Told
+fn read_some<R: Read>(reader: &mut R, buf: &mut [u8], at: usize) -> Told
     requires { at ≤ length buf.old }
-    ensures { Within result (length buf.old - at) }
+    ensures within { Within result (length buf.old - at) }
+    ensures front { take at buf.new ≡ take at buf.old }
+    ensures bytes { Gives result (R.remaining reader.old) (R.remaining reader.new) (drop at buf.new) }
 {
-    let part = &mut buf[at..];
-    let got = libc::read(fd, part);
-    // At once: any later call may set another cause.
-    let error = os::errno();
-    judge(got, io::count(got, part), error)
+    judge(reader.read(&mut buf[at..]))
 }
 
 // One write of what `text` has from `at` on.
-fn write_some(fd: i32, text: &[u8], at: usize) -> Told
+fn write_some<W: Write>(writer: &mut W, text: &[u8], at: usize) -> Told
     requires { at ≤ length text.now }
-    ensures { Within result (length text.now - at) }
+    ensures within { Within result (length text.now - at) }
+    ensures bytes { Takes result (W.contents writer.old) (W.contents writer.new) (drop at text.now) }
 {
-    let part = &text[at..];
-    let got = libc::write(fd, part);
-    let error = os::errno();
-    judge(got, io::count(got, part), error)
+    judge(writer.write(&text[at..]))
 }
 
 // Reads until the input ends or `buf` is full.
-pub fn read_whole(fd: i32, buf: &mut [u8]) -> Input
-    ensures { Taken result buf.new }
+pub fn read_whole<R: Read>(reader: &mut R, buf: &mut [u8]) -> Input
+    ensures within { Taken result buf.new }
+    ensures bytes { GivesWhole result (R.remaining reader.old) (R.remaining reader.new) buf.new }
 {
     let mut filled = 0;
     let mut patience = PATIENCE;
     while filled < buf.len() {
-        match read_some(fd, buf, filled) {
+        match read_some(reader, buf, filled) {
             Told::Moved(n) => filled += n,
             Told::Ended => return Input::Whole(filled),
             Told::Again => {
@@ -84,7 +78,7 @@ pub fn read_whole(fd: i32, buf: &mut [u8]) -> Input
                     return Input::Failed;
                 }
                 patience -= 1;
-                libc::sched_yield();
+                thread::yield_now();
             }
             Told::Failed => return Input::Failed,
         }
@@ -93,20 +87,21 @@ pub fn read_whole(fd: i32, buf: &mut [u8]) -> Input
 }
 
 // Writes `text`, and answers how many of its bytes: all, or those before a failure.
-pub fn write_whole(fd: i32, text: &[u8]) -> usize
-    ensures { result ≤ length text.now }
+pub fn write_whole<W: Write>(writer: &mut W, text: &[u8]) -> usize
+    ensures within { result ≤ length text.now }
+    ensures bytes { Appends (W.contents writer.old) (W.contents writer.new) (take result text.now) }
 {
     let mut written = 0;
     let mut patience = PATIENCE;
     while written < text.len() {
-        match write_some(fd, text, written) {
+        match write_some(writer, text, written) {
             Told::Moved(n) => written += n,
             Told::Again => {
                 if patience == 0 {
                     return written;
                 }
                 patience -= 1;
-                libc::sched_yield();
+                thread::yield_now();
             }
             Told::Ended | Told::Failed => return written,
         }

@@ -1,5 +1,5 @@
-/* Loaded before the C library, so that a program's calls on its standard input and output go wrong as FAULT says. None of them moves
-   more than a hundred bytes. */
+/* Loaded before the C library, so that a program's calls on its standard input and output, and its syncing of a file, go wrong as
+   FAULT says. None of them moves more than a hundred bytes. */
 #define _GNU_SOURCE
 #include <errno.h>
 #include <stdlib.h>
@@ -65,9 +65,9 @@ ssize_t write(int fd, const void *buf, size_t count) {
     return syscall(SYS_write, fd, buf, count);
 }
 
-int close(int fd) {
-    long closed = syscall(SYS_close, fd);
-    return fd == STDOUT_FILENO && is("close fails") ? (int)fail(ENOSPC) : (int)closed;
+int fdatasync(int fd) {
+    long synced = syscall(SYS_fdatasync, fd);
+    return is("sync fails") ? (int)fail(ENOSPC) : (int)synced;
 }
 
 /* Not waiting: only how often it is called counts. */

@@ -1,5 +1,5 @@
-// Reading and writing to the end, where a failure is told from the end, and calls that pass by are made again: `read_to_end` of
-// `std` takes a call that would have to wait as failed.
+// Reading and writing to the end, where a failure is told from the end, and a call that was interrupted or would have to wait is made
+// again: `read_to_end` and `write_all` of `std` take the second as failed.
 #![tactic(auto)]
 
 ghost use Rattle.std.specs.Prelude.{◌≡◌, ◌-◌, ◌≤◌, length, take, drop};

@@ -68,12 +68,12 @@ given_up g cover a e = keep (is_released g cover a (entry_rows g e))
 
 -- by the first row, r, where `next` is whether e covers it, and `other` whether another address does
 module _ (g : Geometry) (cover : Cover) (a : ℕ) (e : Entry) {rs rest : List ℕ} {r : ℕ} {next : Bool} (cut : rs ≡ r ∷ rest) (found : next ≡ covers g e r) where
-  pub kept-by-next : not next ≡ false → given_up g cover a e rs ≡ given_up g cover a e rest
+  pub kept-by-next : next ≡ true → given_up g cover a e rs ≡ given_up g cover a e rest
   unfolding keep covers
   kept-by-next n = rw (cut, ← found, n)
 
-  pub others-decide : {other b : Bool} → not next ≡ true → other ≡ others_cover g cover a r → not other ≡ b
-      → given_up g cover a e rs ≡ cond b (r ∷ given_up g cover a e rest) (given_up g cover a e rest)
+  pub others-decide : {other b : Bool} → next ≡ false → other ≡ others_cover g cover a r → other ≡ b
+      → given_up g cover a e rs ≡ cond (not b) (r ∷ given_up g cover a e rest) (given_up g cover a e rest)
   unfolding keep covers
   others-decide n others m = rw (cut, ← found, n, ← others, m)
 
@@ -118,11 +118,11 @@ beside g store a o b s ok full ha ho es eb =
 
 -- where `same` is whether the code found b to be a
 module _ {g : Geometry} {store : List ℕ} {a o b : ℕ} (row : ℕ) (h : Beside g store a o b) {same : Bool} (found : same ≡ eqb b a) where
-  pub covers-not : not same ≡ false → other_covers g store a row o ≡ false
+  pub covers-not : same ≡ true → other_covers g store a row o ≡ false
   covers-not n = rw (← h.is, ← found, n)
 
   -- x is the entry of the word w that the code reads there, and r whether it covers the row
-  pub covers-other : {sizes : Sizes} {w : ℕ} {x : Entry} {r : Bool} → Sized g sizes → not same ≡ true → w ≡ stored_word (tables store []) b
+  pub covers-other : {sizes : Sizes} {w : ℕ} {x : Entry} {r : Bool} → Sized g sizes → same ≡ false → w ≡ stored_word (tables store []) b
       → x ≡ cond (ltb w sizes.patterns) (pattern w) empty → r ≡ covers g x row → other_covers g store a row o ≡ r
   covers-other {w = w} z n ew ex er = rw (← h.is, ← found, n, er, ex, entry-held z store [] b w ew)
 
@@ -131,16 +131,16 @@ module _ {g : Geometry} {store : List ℕ} {a o b : ℕ} (row : ℕ) (h : Beside
 -- e is the entry, w the word of the store at the address a; `sound` is what the code found of it
 module _ {g : Geometry} {sizes : Sizes} (z : Sized g sizes) (store ind : List ℕ) (a : ℕ) {w : ℕ} (e : Entry) {sound : Bool} (is : w ≡ stored_word (tables store ind) a)
     (found : sound ≡ (eqb w empty_word || ltb w sizes.patterns)) where
-  bad : {b : Bool} → not sound ≡ b → bad_entry g (tables store ind) a ≡ b
-  bad n = entry-bad z store ind a w is ∙ rw (← found) n
+  bad : {b : Bool} → sound ≡ b → bad_entry g (tables store ind) a ≡ not b
+  bad n = entry-bad z store ind a w is ∙ rw (← found, n)
 
-  pub replace-refused : not sound ≡ true → record { answer = refused 5; tables = tables store ind; matches = [] } ≡ replacing g (tables store ind) a e
+  pub replace-refused : sound ≡ false → record { answer = refused 5; tables = tables store ind; matches = [] } ≡ replacing g (tables store ind) a e
   unfolding replacing
   replace-refused n = rw (bad n)
 
   -- x is the former entry, s the code's set of a and v its word of e; i₁ and i₂ are the indicators with bits set and then cleared,
   -- `after` the store
-  pub replace-done : {x : Entry} {s v : ℕ} {i₁ i₂ after : List ℕ} → not sound ≡ false → x ≡ cond (ltb w sizes.patterns) (pattern w) empty
+  pub replace-done : {x : Entry} {s v : ℕ} {i₁ i₂ after : List ℕ} → sound ≡ true → x ≡ cond (ltb w sizes.patterns) (pattern w) empty
       → s ≡ set_of g a → i₁ ≡ change set_bit g s (entry_rows g e) ind
       → i₂ ≡ change clear_bit g (set_of g a) (given_up g (store_cover g (tables store [])) a e (entry_rows g x)) i₁ → v ≡ word_of e → after ≡ set store a v
       → record { answer = held x; tables = tables after i₂; matches = [] } ≡ replacing g (tables store ind) a e

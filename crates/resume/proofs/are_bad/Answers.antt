@@ -1,0 +1,14 @@
+-- `resume::are_bad` meets its contract: both looks together are the test of row 10.
+use Rattle.geometry.proofs.Facts.{facts}
+use Rattle.resume.proofs.Looks.{looks-tell}
+use Rattle.resume.proofs.are_bad.Goals as goal
+
+pub returns-then-any_is_amiss : goal.returns-then-any_is_amiss
+returns-then-any_is_amiss c =
+    let l = c.requires in
+    rw (looks-tell _ (facts _ l.sized.is-valid) _ l.entries l.words, ← c.any_is_amiss.ensures, c.if-any_is_amiss.true)
+
+pub returns-else-any_is_amiss : goal.returns-else-any_is_amiss
+returns-else-any_is_amiss c =
+    let l = c.requires in
+    rw (looks-tell _ (facts _ l.sized.is-valid) _ l.entries l.words, ← c.any_is_amiss.ensures, c.if-any_is_amiss.false) c.any_is_stale.ensures

@@ -1,7 +1,6 @@
 -- The number that stands for an answer, what it gives back, and what an exported function gives and leaves; the number for a
 -- length (docs/MEMORY.md, section 12).
 use Rattle.std.specs.Prelude.{ℕ, ◌+◌, ◌-◌, ◌*◌, ◌/◌, ◌%◌, ◌≡◌, cond, List, eqb, ltb}
-use Rattle.std.proofs.Math.Option as Option
 use Rattle.std.proofs.Math.Option.{Option, some}
 use Rattle.geometry.specs.declared.Geometry.{Geometry}
 use Rattle.geometry.specs.Valid.{valid}

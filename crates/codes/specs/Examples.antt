@@ -1,7 +1,6 @@
 -- Answers and what resumes come to with the numbers that stand for them, and geometries with those for their lengths, as rows of
 -- three tables, and a geometry of four numbers that differ. proofs/Examples.antt computes them.
 use Rattle.std.specs.Prelude.{ℕ, List, [], ◌∷◌}
-use Rattle.std.proofs.Math.Option as Option
 use Rattle.std.proofs.Math.Option.{Option, some}
 use Rattle.geometry.specs.declared.Geometry.{Geometry}
 use Rattle.reference.specs.Entry.{empty, pattern}

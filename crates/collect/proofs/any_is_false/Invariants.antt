@@ -1,3 +1,4 @@
+-- No row word before j indicates a false set.
 use Prim.Native.Nat.{◌-◌}
 use Rattle.words.specs.Rules.{Nowhere}
 use Rattle.geometry.specs.Sizes.{row_words}

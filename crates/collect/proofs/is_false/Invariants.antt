@@ -1,3 +1,4 @@
+-- No entry before `at` is the key.
 use Prim.Native.Nat.{◌-◌}
 use mathlib.Core.List.{[]}
 use Rattle.words.specs.Rules.{Nowhere}

@@ -1,3 +1,4 @@
+-- Of the sets of the row words before word j, what is taken is marked.
 use Prim.Native.Nat.{◌-◌}
 use mathlib.Core.Path.{◌≡◌}
 use Rattle.geometry.specs.Sizes.{row_words}

@@ -1,3 +1,4 @@
+-- The addresses of the set before the offset are marked.
 use Prim.Native.Nat.{◌-◌}
 use mathlib.Core.Path.{◌≡◌}
 use mathlib.Core.List.{[]}

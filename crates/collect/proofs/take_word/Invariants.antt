@@ -1,3 +1,4 @@
+-- The sets of the bits that are left, marked in what is marked already, give what those of the whole word give.
 use mathlib.Core.Path.{◌≡◌}
 use mathlib.Core.List.{[]}
 use Rattle.calls.specs.Answers.{tables}

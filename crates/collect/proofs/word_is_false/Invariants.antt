@@ -1,3 +1,4 @@
+-- Only bits of sets are left, and one of them belongs to a false set exactly when one of the word's does.
 use mathlib.Core.Path.{◌≡◌}
 use Rattle.collect.proofs.Walk.{Left}
 use Rattle.collect.proofs.FalseSets.{any_false_set}

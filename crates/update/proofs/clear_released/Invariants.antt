@@ -1,3 +1,4 @@
+-- The released rows from stage k on, cleared in the indicators as they are, give what all of them give of the lent ones.
 use Prim.Native.Nat.{◌-◌, ◌≤◌}
 use mathlib.Core.List.{[]}
 use lib.ListN.{length, drop}

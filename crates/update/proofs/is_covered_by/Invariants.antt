@@ -1,3 +1,4 @@
+-- The row is among those from stage k on exactly when it is one of the pattern's.
 use Prim.Native.Nat.{◌-◌, ◌≤◌}
 use mathlib.Core.Path.{◌≡◌}
 use lib.ListN.{drop}

@@ -1,3 +1,4 @@
+-- At no offset before `at` is another address that covers the row.
 use Prim.Native.Nat.{◌-◌}
 use Rattle.words.specs.Rules.{Nowhere}
 use Rattle.geometry.specs.Sizes.{set_length}

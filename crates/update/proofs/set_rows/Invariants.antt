@@ -1,3 +1,4 @@
+-- The rows from stage k on, set in the indicators as they are, give what all rows give of the lent ones.
 use Prim.Native.Nat.{◌-◌, ◌≤◌}
 use lib.ListN.{length, drop}
 use Rattle.words.specs.Bits.{set_bit}

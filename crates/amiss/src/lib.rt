@@ -1,63 +1,55 @@
 // The first look of a resume at its tables (rule 8.12 of docs/MEMORY.md): every word of the store is empty or a pattern, and every
-// entry has its bits. What is asked is what the check of `resume` has shown: a valid geometry and its sizes, and tables of their
-// lengths. The loops show that an address and a stage are ones of the geometry.
+// entry has its bits. The walks show that an address and a stage are ones of the geometry.
 #![tactic(auto)]
 
-ghost use Rattle.std.specs.Prelude.{◌<◌, ◌≡◌, length};
+ghost use Rattle.std.specs.Prelude.{◌<◌, ◌≡◌};
 ghost use Rattle.words.specs.Rules.{any};
 ghost use Rattle.geometry.specs.Sizes.{sets};
+ghost use Rattle.geometry.specs.Stages.{stages};
 ghost use Rattle.reference.specs.Entry.{pattern};
-ghost use Rattle.checks.specs.Passed.{Lent};
-ghost use Rattle.calls.specs.Answers.{tables};
-ghost use Rattle.amiss.specs.Amiss.{lacks, is_amiss};
+ghost use Rattle.calls.specs.Answers.{tables_in};
+ghost use Rattle.amiss.specs.Amiss.{is_missing, lacks, is_amiss};
 
-use calls::Entry;
-use geometry::Geometry;
+use checks::Tables;
 use places::{Address, SetIndex};
-use sizes::Sizes;
 
-// Whether the set's bit is missing in a row of the pattern that an address of it holds.
-fn lacks_bit(g: Geometry, sizes: Sizes, indicators: &[u64], set: SetIndex, held: u32) -> bool
-    requires { Lent g sizes g.depth (length indicators.now) × (set.0 < sets g) }
-    ensures { result ≡ lacks g indicators.now set.0 (pattern held) }
+// Whether the set's bit is missing in the row of stage `k` of the pattern that an address of it holds.
+fn is_missing(tables: &Tables<'_>, set: SetIndex, held: u32, k: u32) -> bool
+    requires { (set.0 < sets tables.now.layout.geometry) × (k < stages tables.now.layout.geometry) }
+    ensures { result ≡ is_missing tables.now.layout.geometry tables.now.indicators.now set.0 held k }
 {
-    let mut stage = 0;
-    while stage < sizes.stages {
-        if !set.has_bit(indicators, sizes::row(g, held, stage), sizes) {
-            return true;
-        }
-        stage += 1;
-    }
-    false
+    let layout = tables.layout;
+    !set.has_bit(tables.indicators, layout.row(held, k), layout.sizes)
+}
+
+// Whether it is missing in a row of the pattern.
+fn lacks_bit(tables: &Tables<'_>, set: SetIndex, held: u32) -> bool
+    requires { set.0 < sets tables.now.layout.geometry }
+    ensures { result ≡ lacks tables.now.layout.geometry tables.now.indicators.now set.0 (pattern held) }
+{
+    (0..tables.layout.sizes.stages).any(|k| is_missing(tables, set, held, k))
 }
 
 // Whether the word of the address is neither empty nor a pattern, or a bit of its entry is missing.
-fn is_amiss(g: Geometry, sizes: Sizes, store: &[u32], indicators: &[u64], address: Address) -> bool
-    requires { Lent g sizes (length store.now) (length indicators.now) × (address.0 < g.depth) }
-    ensures { result ≡ is_amiss g (tables store.now indicators.now) address.0 }
+fn is_amiss(tables: &Tables<'_>, address: Address) -> bool
+    requires { address.0 < tables.now.layout.geometry.depth }
+    ensures { result ≡ is_amiss tables.now.layout.geometry (tables_in tables.now) address.0 }
 {
-    let word = address.word(store);
-    if !calls::is_sound(word, sizes.patterns) {
+    let patterns = tables.layout.sizes.patterns;
+    let word = address.word(tables.store);
+    if !calls::is_sound(word, patterns) {
         return true;
     }
-    let entry = calls::entry_of(word, sizes.patterns);
-    match entry {
-        Entry::Empty => false,
-        Entry::Pattern(held) => lacks_bit(g, sizes, indicators, address.set(g), held),
+    // Not by `is_some_and`: nothing is known there of what a closure gives that has the tables in it.
+    match calls::entry_of(word, patterns) {
+        None => false,
+        Some(held) => lacks_bit(tables, address.set(tables.layout), held),
     }
 }
 
 // The first look: whether any address is amiss.
-pub fn any_is_amiss(g: Geometry, sizes: Sizes, store: &[u32], indicators: &[u64]) -> bool
-    requires { Lent g sizes (length store.now) (length indicators.now) }
-    ensures { result ≡ any g.depth (is_amiss g (tables store.now indicators.now)) }
+pub fn any_is_amiss(tables: &Tables<'_>) -> bool
+    ensures { result ≡ any tables.now.layout.geometry.depth (is_amiss tables.now.layout.geometry (tables_in tables.now)) }
 {
-    let mut address = Address::first();
-    while !address.is_outside(g) {
-        if is_amiss(g, sizes, store, indicators, address) {
-            return true;
-        }
-        address = address.next();
-    }
-    false
+    Address::all(tables.layout).any(|address| is_amiss(tables, address))
 }

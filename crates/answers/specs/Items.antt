@@ -1,5 +1,5 @@
 -- The items of an answer, and how a line goes on after an item (docs/MEMORY.md, section 14).
-use Rattle.std.specs.Prelude.{List, [], ◌∷◌, ◌++◌, map}
+use Rattle.std.specs.Prelude.{ℕ, List, [], ◌∷◌, ◌++◌, map}
 use Rattle.reference.specs.Entry.{Entry, empty, pattern}
 use Rattle.reference.specs.Calls.{Answer, refused, cleared, held, at, none, matched}
 use Rattle.figures.specs.Figures.{Bytes, ascii, decimal, hexadecimal}
@@ -14,11 +14,15 @@ unfoldable pub entry_text : Entry → Bytes
 entry_text empty = ascii "-"
 entry_text (pattern p) = decimal p
 
+-- The counts of a first-match as items (rule 14.2).
+abbrev pub counts : (words-read entries-compared : ℕ) → List Bytes
+counts w c = ascii "w" ∷ decimal w ∷ ascii "c" ∷ decimal c ∷ []
+
 -- The items of an answer (rule 14.2).
 unfoldable pub answer_items : Answer → List Bytes
 answer_items (refused n) = ascii "no" ∷ decimal n ∷ []
 answer_items cleared = ascii "clear" ∷ []
 answer_items (held e) = ascii "was" ∷ entry_text e ∷ []
-answer_items (at a w c) = ascii "at" ∷ decimal a ∷ ascii "w" ∷ decimal w ∷ ascii "c" ∷ decimal c ∷ []
-answer_items (none w c) = ascii "none" ∷ ascii "w" ∷ decimal w ∷ ascii "c" ∷ decimal c ∷ []
+answer_items (at a w c) = ascii "at" ∷ decimal a ∷ counts w c
+answer_items (none w c) = ascii "none" ∷ counts w c
 answer_items (matched ws hits) = ascii "hits" ∷ decimal hits ∷ map hexadecimal ws

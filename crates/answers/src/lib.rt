@@ -1,72 +1,77 @@
-// The items of an answer, which end their line, as bytes in a lent buffer.
-//
-// Each function writes from `at` on and gives the place after its last byte. It asks for room for its bytes: whoever prints a line
-// has room for all of it.
-#![tactic(auto)]
+// The items of an answer, which end their line, printed on a page.
+#![tactic(auto, using(crate::proofs::Words::words_ended, figures::proofs::Printing::room_after), unfolding(figures::specs::Figures::ascii, crate::specs::Items::ended, crate::specs::Items::entry_text, crate::specs::Items::answer_items))]
 
-ghost use Rattle.std.specs.Prelude.{◌+◌, ◌≤◌, map, length};
-ghost use Rattle.reference.specs.Calls.{held};
+ghost use Rattle.std.specs.Prelude.{◌≡◌, ◌++◌};
 ghost use Rattle.calls.specs.Answers.{entry_for, answer_for};
-ghost use Rattle.figures.specs.Figures.{hexadecimal};
-ghost use Rattle.figures.specs.Appended.{Appended};
-ghost use Rattle.answers.specs.Items.{ended, answer_items};
+ghost use Rattle.figures.specs.Pieces.{piece_bytes, all_bytes};
+ghost use Rattle.figures.specs.Sheet.{Room, Prints};
+ghost use Rattle.answers.specs.Items.{ended, entry_text, counts, answer_items};
 
-use calls::{Answer, Entry};
-
-// The words of a match word, which end their line.
-fn put_words(out: &mut [u8], at: usize, words: &[u64]) -> usize
-    requires { at + length (ended (map hexadecimal words.now)) ≤ length out.old }
-    ensures { Appended out.old out.new at result (ended (map hexadecimal words.now)) }
-{
-    let mut end = at;
-    let mut j = 0;
-    while j < words.len() {
-        end = figures::put_bytes(out, end, b" ");
-        end = figures::put_hexadecimal(out, end, words[j]);
-        j += 1;
-    }
-    figures::put_bytes(out, end, b"\n")
-}
+use calls::{Answer, Entry, Search};
+use checks::Refusal;
+use figures::Piece::{Decimal, Text, Words};
+use figures::{Page, Piece};
 
 // The entry that an address has or had.
-fn put_entry(out: &mut [u8], at: usize, entry: Entry) -> usize
-    requires { at + length (ended (answer_items (held (entry_for entry)))) ≤ length out.old }
-    ensures { Appended out.old out.new at result (ended (answer_items (held (entry_for entry)))) }
+fn entry_piece(entry: Entry) -> Piece<'static>
+    ensures { piece_bytes result ≡ entry_text (entry_for entry) }
 {
     match entry {
-        Entry::Empty => figures::put_bytes(out, at, b" was -\n"),
-        Entry::Pattern(p) => figures::put_last(out, at, b" was ", p),
+        Some(pattern) => Decimal(pattern),
+        None => Text("-"),
     }
+}
+
+// What a first-match found, and its counts.
+fn put_counted(page: &mut Page, found: &[Piece], words_read: u16, entries_compared: u16)
+    requires { Room page.old (all_bytes found.now ++ ended (counts words_read entries_compared)) }
+    ensures { Prints page.old page.new (all_bytes found.now ++ ended (counts words_read entries_compared)) }
+{
+    page.print(found);
+    page.print(&[
+        Text(" w "),
+        Decimal(u32::from(words_read)),
+        Text(" c "),
+        Decimal(u32::from(entries_compared)),
+        Text("\n"),
+    ])
 }
 
 // An answer, after the number of its command.
-pub fn put_items(out: &mut [u8], at: usize, answer: Answer, matches: &[u64]) -> usize
-    requires { at + length (ended (answer_items (answer_for answer matches.now))) ≤ length out.old }
-    ensures { Appended out.old out.new at result (ended (answer_items (answer_for answer matches.now))) }
+pub fn put_items(page: &mut Page, answer: Result<Answer, Refusal>, matches: &[u64])
+    requires { Room page.old (ended (answer_items (answer_for answer matches.now))) }
+    ensures { Prints page.old page.new (ended (answer_items (answer_for answer matches.now))) }
 {
     match answer {
-        Answer::Refused(why) => figures::put_last(out, at, b" no ", why.number()),
-        Answer::Cleared => figures::put_bytes(out, at, b" clear\n"),
-        Answer::Held(entry) => put_entry(out, at, entry),
-        Answer::At {
-            address,
-            words_read,
-            entries_compared,
-        } => {
-            let after_address = figures::put_named(out, at, b" at ", address.number());
-            let after_words = figures::put_named(out, after_address, b" w ", words_read as u32);
-            figures::put_last(out, after_words, b" c ", entries_compared as u32)
+        Err(why) => page.print(&[Text(" no "), Decimal(u32::from(why)), Text("\n")]),
+        Ok(Answer::Cleared) => page.put(Text(" clear\n")),
+        Ok(Answer::Held(entry)) => page.print(&[Text(" was "), entry_piece(entry), Text("\n")]),
+        Ok(
+            Answer::Searched(
+                Search {
+                    address: Some(address),
+                    words_read,
+                    entries_compared,
+                },
+            ),
+        ) => {
+            let at = [Text(" at "), Decimal(address.number())];
+            put_counted(page, &at, words_read, entries_compared)
         }
-        Answer::None {
-            words_read,
-            entries_compared,
-        } => {
-            let after_none = figures::put_named(out, at, b" none w ", words_read as u32);
-            figures::put_last(out, after_none, b" c ", entries_compared as u32)
-        }
-        Answer::Matched { hits } => {
-            let after_hits = figures::put_named(out, at, b" hits ", hits);
-            put_words(out, after_hits, matches)
-        }
+        Ok(
+            Answer::Searched(
+                Search {
+                    address: None,
+                    words_read,
+                    entries_compared,
+                },
+            ),
+        ) => put_counted(page, &[Text(" none")], words_read, entries_compared),
+        Ok(Answer::Matched { hits }) => page.print(&[
+            Text(" hits "),
+            Decimal(hits),
+            Words(matches),
+            Text("\n"),
+        ]),
     }
 }

@@ -4,7 +4,7 @@
 ghost use Rattle.std.specs.Prelude.{◌≡◌};
 ghost use Rattle.boxes.specs.Drawn.{box_of};
 
-use geometry::{CASCADED, Geometry};
+use geometry::{Geometry, Kind};
 
 // The boxes from the low end of a pattern on, and the one of the kinds that do not cut it.
 #[derive(Clone, Copy)]
@@ -21,13 +21,13 @@ pub enum StageBox {
     Whole,
 }
 
-// The box of stage `k`. The tests leave at once, so that the compiler can follow the box into the `match` of `sizes::stage`.
+// The box of stage `k`. The tests leave at once, so that the compiler can follow the box into the `match` of `Layout::stage`.
 pub fn box_of(g: Geometry, k: u32) -> StageBox
     ensures { result ≡ box_of g k }
 {
-    if g.kind != CASCADED {
+    let Ok(Kind::Cascaded) = Kind::try_from(g.kind) else {
         return StageBox::Whole;
-    }
+    };
     if g.pattern_width / 9 <= k {
         return StageBox::NarrowLast;
     }

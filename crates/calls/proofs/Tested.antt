@@ -9,7 +9,7 @@ use Rattle.reference.specs.Entry.{empty, pattern, empty_word, entry_of}
 use Rattle.reference.specs.Tables.{stored_word, stored_entry}
 use Rattle.reference.specs.Steps.{bad_entry}
 use Rattle.sizes.specs.declared.Sizes.{Sizes}
-use Rattle.checks.specs.Passed.{Sized}
+use Rattle.sizes.specs.SizesOf.{Sized}
 use Rattle.calls.specs.Answers.{tables}
 
 -- w is the word that the store has at address a

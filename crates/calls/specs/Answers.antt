@@ -1,6 +1,6 @@
 -- What the code's entries, calls and answers stand for: those of the reference, with the numbers and values of docs/MEMORY.md
 -- (sections 7 and 9).
-use Rattle.std.specs.Prelude.{ℕ, ◌≡◌, List}
+use Rattle.std.specs.Prelude.{ℕ, ◌≡◌, List, [], Option, Some, None, Result, Ok, Err}
 use Rattle.geometry.specs.declared.Geometry.{Geometry}
 use Rattle.reference.specs.Entry as entries
 use Rattle.reference.specs.Entry.{empty, pattern}
@@ -8,17 +8,18 @@ use Rattle.reference.specs.Calls.{clear, write, erase, read, first_match, all_ma
 use Rattle.reference.specs.Calls as calls
 use Rattle.reference.specs.Tables.{Tables}
 use Rattle.reference.specs.Steps.{Outcome, step}
+use Rattle.checks.specs.declared.Refusal.{Refusal}
+use Rattle.checks.specs.declared.lent.Tables as lent-tables
 use Rattle.checks.specs.Checks.{number_of}
-use Rattle.calls.specs.declared.Entry.{Entry}
-use Rattle.calls.specs.declared.Entry.TheVariants.{Empty, Pattern}
 use Rattle.calls.specs.declared.Call.{Call}
 use Rattle.calls.specs.declared.Call.TheVariants.{Clear, Write, Erase, Read, FirstMatch, AllMatch}
 use Rattle.calls.specs.declared.Answer.{Answer}
-use Rattle.calls.specs.declared.Answer.TheVariants.{Refused, Cleared, Held, At, None, Matched}
+use Rattle.calls.specs.declared.Answer.TheVariants.{Cleared, Held, Searched, Matched}
+use Rattle.calls.specs.declared.Search.{Search}
 
-abbrev pub entry_for : Entry → entries.Entry
-entry_for Empty = empty
-entry_for (Pattern p) = pattern p
+abbrev pub entry_for : Option ℕ → entries.Entry
+entry_for None = empty
+entry_for (Some p) = pattern p
 
 -- The call, where a match word is lent.
 abbrev pub call_for : Call → (lent : List ℕ) → calls.Call (List ℕ)
@@ -29,20 +30,30 @@ call_for (Read a) m = read a.0
 call_for (FirstMatch key) m = first_match key
 call_for (AllMatch key) m = all_match key m
 
--- The answer, where the match word is `matches` after the call.
-abbrev pub answer_for : Answer → (matches : List ℕ) → calls.Answer
-answer_for (Refused why) m = refused (number_of why)
-answer_for Cleared m = cleared
-answer_for (Held e) m = held (entry_for e)
-answer_for (At a w c) m = at a.0 w c
-answer_for (None w c) m = none w c
-answer_for (Matched n) m = matched m n
+-- What a first-match answers.
+abbrev pub search_for : Search → calls.Answer
+search_for s = elim s.address [ Some a ↦ at a.0 s.words_read s.entries_compared | None ↦ none s.words_read s.entries_compared ]
+
+-- The answer of a call that is not refused, where the match word is `matches` after the call; and of any.
+abbrev pub accepted_for : Answer → (matches : List ℕ) → calls.Answer
+accepted_for Cleared m = cleared
+accepted_for (Held e) m = held (entry_for e)
+accepted_for (Searched s) m = search_for s
+accepted_for (Matched n) m = matched m n
+
+abbrev pub answer_for : Result Answer Refusal → (matches : List ℕ) → calls.Answer
+answer_for (Ok answer) m = accepted_for answer m
+answer_for (Err why) m = refused (number_of why)
 
 abbrev pub tables : (store indicators : List ℕ) → Tables
 tables s i = record { store = s; indicators = i }
 
+-- Those that passed the check of a call.
+abbrev pub tables_in : lent-tables.Tables → Tables
+tables_in t = tables t.store.now t.indicators.now
+
 -- The outcome of a call that leaves this answer, these tables and this match word.
-abbrev pub left : Answer → (store indicators matches : List ℕ) → Outcome
+abbrev pub left : Result Answer Refusal → (store indicators matches : List ℕ) → Outcome
 left r s i m = record { answer = answer_for r m; tables = tables s i; matches = m }
 
 -- What a call leaves that is lent a match word, though it may have no use for it: the answer and the tables are the step's, and
@@ -51,7 +62,7 @@ abbrev pub lent_step : Geometry → Tables → (lent : List ℕ) → calls.Call 
 lent_step g t m c = record { answer = (step g t c).answer; tables = (step g t c).tables; matches = matches_after (step g t c).answer m }
 
 -- A call of the code that leaves that.
-pub record Performed (g : Geometry) (call : Call) (r : Answer) (before after : Tables) (lent now : List ℕ) : Type 0 where
+pub record Performed (g : Geometry) (call : Call) (r : Result Answer Refusal) (before after : Tables) (lent now : List ℕ) : Type 0 where
   pub answer : answer_for r now ≡ (lent_step g before lent (call_for call lent)).answer
   pub tables_after : after ≡ (lent_step g before lent (call_for call lent)).tables
   pub matches : now ≡ (lent_step g before lent (call_for call lent)).matches

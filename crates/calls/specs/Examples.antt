@@ -1,15 +1,16 @@
 -- Calls and answers of the code beside those that they stand for, as rows of two tables. proofs/Examples.antt computes both.
-use Rattle.std.specs.Prelude.{ℕ, List, [], ◌∷◌}
+use Rattle.std.specs.Prelude.{ℕ, List, [], ◌∷◌, Option, Some, None, Result, Ok, Err}
 use Rattle.reference.specs.Entry.{empty, pattern}
 use Rattle.reference.specs.Calls as calls
 use Rattle.reference.specs.Calls.{clear, write, erase, read, first_match, all_match, refused, cleared, held, at, none, matched}
+use Rattle.checks.specs.declared.Refusal.{Refusal}
 use Rattle.checks.specs.declared.Refusal.TheVariants.{BadGeometry, BadLengths, BadAddress, BadPattern, BadEntry, FalseSet, BadTables}
 use Rattle.places.specs.declared.Address.{Address}
-use Rattle.calls.specs.declared.Entry.TheVariants.{Empty, Pattern}
 use Rattle.calls.specs.declared.Call.{Call}
 use Rattle.calls.specs.declared.Call.TheVariants.{Clear, Write, Erase, Read, FirstMatch, AllMatch}
 use Rattle.calls.specs.declared.Answer.{Answer}
-use Rattle.calls.specs.declared.Answer.TheVariants.{Refused, Cleared, Held, At, None, Matched}
+use Rattle.calls.specs.declared.Answer.TheVariants.{Cleared, Held, Searched, Matched}
+use Rattle.calls.specs.declared.Search.{Search}
 
 -- A value of the code and the one that it stands for.
 pub record Example (A B : Type 0) : Type 0 where
@@ -20,7 +21,7 @@ abbrev pub CallExample : Type 0
 CallExample = Example Call (calls.Call (List ℕ))
 
 abbrev pub AnswerExample : Type 0
-AnswerExample = Example Answer calls.Answer
+AnswerExample = Example (Result Answer Refusal) calls.Answer
 
 abbrev pub ◌means◌ : {A B : Type 0} → A → B → Example A B
 given means meant = record { given = given; meant = meant }
@@ -28,6 +29,9 @@ given means meant = record { given = given; meant = meant }
 infix 68 ◌means◌
 abbrev pub address : ℕ → Address
 address n = record { 0 = n }
+
+abbrev pub search : Option Address → (words-read entries-compared : ℕ) → Search
+search a w c = record { address = a; words_read = w; entries_compared = c }
 
 -- The match word that is lent with each call, and stands after it.
 abbrev pub two_words : List ℕ
@@ -45,17 +49,17 @@ call_examples =
 
 unfoldable pub answer_examples : List AnswerExample
 answer_examples =
-    Refused BadGeometry means refused 1
-    ∷ Refused BadLengths means refused 2
-    ∷ Refused BadAddress means refused 3
-    ∷ Refused BadPattern means refused 4
-    ∷ Refused BadEntry means refused 5
-    ∷ Refused FalseSet means refused 6
-    ∷ Refused BadTables means refused 10
-    ∷ Cleared means cleared
-    ∷ Held Empty means held empty
-    ∷ Held (Pattern 5) means held (pattern 5)
-    ∷ At (address 3) 4 5 means at 3 4 5
-    ∷ None 4 5 means none 4 5
-    ∷ Matched 2 means matched two_words 2
+    Err BadGeometry means refused 1
+    ∷ Err BadLengths means refused 2
+    ∷ Err BadAddress means refused 3
+    ∷ Err BadPattern means refused 4
+    ∷ Err BadEntry means refused 5
+    ∷ Err FalseSet means refused 6
+    ∷ Err BadTables means refused 10
+    ∷ Ok Cleared means cleared
+    ∷ Ok (Held None) means held empty
+    ∷ Ok (Held (Some 5)) means held (pattern 5)
+    ∷ Ok (Searched (search (Some (address 3)) 4 5)) means at 3 4 5
+    ∷ Ok (Searched (search None 4 5)) means none 4 5
+    ∷ Ok (Matched 2) means matched two_words 2
     ∷ []

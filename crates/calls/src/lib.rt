@@ -1,19 +1,14 @@
 // A call, the answer to it and the entries in it, as the code has them; and entries as words of the store.
 #![tactic(auto)]
 
-ghost use Rattle.std.specs.Prelude.{◌≡◌, cond, ◌||◌, eqb, ltb, length, replicate};
+ghost use Rattle.std.specs.Prelude.{◌≡◌, cond, ◌||◌, eqb, ltb};
 ghost use Rattle.reference.specs.Entry.{empty, pattern, empty_word, word_of};
 ghost use Rattle.calls.specs.Answers.{entry_for};
 
-use checks::Refusal;
 use places::Address;
 
-// What an address holds.
-#[derive(Clone, Copy)]
-pub enum Entry {
-    Empty,
-    Pattern(u32),
-}
+// What an address holds: a pattern, or nothing where it is empty.
+pub type Entry = Option<u32>;
 
 // A call, with its address and its pattern.
 #[derive(Clone, Copy)]
@@ -26,38 +21,31 @@ pub enum Call {
     AllMatch(u32),
 }
 
-// What comes back (docs/MEMORY.md, section 7). `words_read` is w and `entries_compared` is c.
+// What a first-match comes to: the lowest address that holds the key, or none, and both counts. `words_read` is w and
+// `entries_compared` is c.
+#[derive(Clone, Copy)]
+pub struct Search {
+    pub address: Option<Address>,
+    pub words_read: u16,
+    pub entries_compared: u16,
+}
+
+// What comes back of a call that is not refused (docs/MEMORY.md, section 7).
 #[derive(Clone, Copy)]
 pub enum Answer {
-    Refused(Refusal),
     Cleared,
     // The entry that the address has, or had before the call.
     Held(Entry),
-    At {
-        address: Address,
-        words_read: u16,
-        entries_compared: u16,
-    },
-    None {
-        words_read: u16,
-        entries_compared: u16,
-    },
+    Searched(Search),
     // The match word itself is in the lent one.
-    Matched {
-        hits: u32,
-    },
+    Matched { hits: u32 },
 }
 
-impl Entry {
-    // Its word in the store.
-    pub fn word(self) -> u32
-        ensures { result ≡ word_of (entry_for self) }
-    {
-        match self {
-            Entry::Empty => 0xffff_ffff,
-            Entry::Pattern(p) => p,
-        }
-    }
+// The word of an entry in the store.
+pub fn word(entry: Entry) -> u32
+    ensures { result ≡ word_of (entry_for entry) }
+{
+    entry.unwrap_or(0xffff_ffff)
 }
 
 // Whether a word is empty or a pattern (rule 3.2).
@@ -71,20 +59,5 @@ pub fn is_sound(word: u32, patterns: u32) -> bool
 pub fn entry_of(word: u32, patterns: u32) -> Entry
     ensures { entry_for result ≡ cond (ltb word patterns) (pattern word) empty }
 {
-    if word < patterns {
-        Entry::Pattern(word)
-    } else {
-        Entry::Empty
-    }
-}
-
-// Every address becomes empty.
-pub fn empty_all(store: &mut [u32])
-    ensures { store.new ≡ replicate (length store.old) empty_word }
-{
-    let mut i = 0;
-    while i < store.len() {
-        store[i] = 0xffff_ffff;
-        i += 1;
-    }
+    (word < patterns).then_some(word)
 }

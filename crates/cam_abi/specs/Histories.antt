@@ -1,5 +1,5 @@
 -- Histories of the exported functions, alone or mixed with the calls that they are made of.
-use Rattle.std.specs.Prelude.{ℕ, ◌≡◌, List}
+use Rattle.std.specs.Prelude.{ℕ, ◌≡◌, List, Result}
 use Rattle.std.proofs.Math.Option as Option
 use Rattle.geometry.specs.declared.Geometry.{Geometry}
 use Rattle.reference.specs.Calls.{Call, lent}
@@ -7,8 +7,8 @@ use Rattle.reference.specs.Array.{Array}
 use Rattle.reference.specs.Tables.{Tables}
 use Rattle.reference.specs.Resume.{shown, resume_step}
 use Rattle.reference.specs.Statements.{Begun}
+use Rattle.checks.specs.declared.Refusal.{Refusal}
 use Rattle.calls.specs.Answers.{tables}
-use Rattle.resume.specs.declared.Resumed.{Resumed}
 use Rattle.resume.specs.Resumed.{refusal_for, gone}
 use Rattle.memory.specs.Runs.{Run, Made, Chain, last_tables, array_after_runs}
 use Rattle.codes.specs.Codes.{told, Coded, resume_told, ResumeCoded}
@@ -29,7 +29,7 @@ ResumesBegin g = (t after : Tables) (n : ℕ) → ResumeCoded g n t after → re
 -- resume.
 abbrev pub ChainsResumeCode : Geometry → (Link : Tables → Run → Type 0) → Type 0
 ChainsResumeCode g Link =
-    (t : Tables) (es : Array) → Begun g t es → (xs : List Run) → Chain Link t xs → (r : Resumed) (s i : List ℕ) → tables s i ≡ last_tables t xs
+    (t : Tables) (es : Array) → Begun g t es → (xs : List Run) → Chain Link t xs → (r : Result (Unit {0}) Refusal) (s i : List ℕ) → tables s i ≡ last_tables t xs
     → gone r s i ≡ resume_step g (tables s i) → (refusal_for r ≡ Option.none) × (shown g (tables s i) ≡ array_after_runs g es xs)
 
 abbrev pub ChainsResume : Geometry → (Link : Tables → Run → Type 0) → Type 0

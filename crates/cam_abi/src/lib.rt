@@ -10,6 +10,7 @@ ghost use Rattle.reference.specs.Calls.{clear, write, erase, read, first_match, 
 ghost use Rattle.calls.specs.Answers.{tables};
 ghost use Rattle.codes.specs.Codes.{size_code, four, Coded, ResumeCoded};
 
+use calls::Answer;
 use codes::{code, four, lengths_of, resume_code};
 use places::Address;
 
@@ -54,7 +55,7 @@ pub fn cam_clear(
     ensures { Coded (four kind depth pattern_width set_width) clear result (tables store.old indicators.old) (tables store.new indicators.new) [] }
 {
     let g = four(kind, depth, pattern_width, set_width);
-    code(memory::clear(g, store, indicators))
+    code(memory::clear(g, store, indicators).map(|()| Answer::Cleared))
 }
 
 // The pattern comes to the address. The value is the word that the store had there, 0xffff_ffff for empty.
@@ -71,7 +72,7 @@ pub fn cam_write(
     ensures { Coded (four kind depth pattern_width set_width) (write address pattern) result (tables store.old indicators.old) (tables store.new indicators.new) [] }
 {
     let g = four(kind, depth, pattern_width, set_width);
-    code(memory::write(g, store, indicators, Address::new(address), pattern))
+    code(memory::write(g, store, indicators, Address::new(address), pattern).map(Answer::Held))
 }
 
 // Empties the address. The value is the word that the store had there, 0xffff_ffff for empty.
@@ -87,7 +88,7 @@ pub fn cam_erase(
     ensures { Coded (four kind depth pattern_width set_width) (erase address) result (tables store.old indicators.old) (tables store.new indicators.new) [] }
 {
     let g = four(kind, depth, pattern_width, set_width);
-    code(memory::erase(g, store, indicators, Address::new(address)))
+    code(memory::erase(g, store, indicators, Address::new(address)).map(Answer::Held))
 }
 
 // The value is the word that the store has at the address, 0xffff_ffff for empty.
@@ -103,7 +104,7 @@ pub fn cam_read(
     ensures { Coded (four kind depth pattern_width set_width) (read address) result (tables store.now indicators.now) (tables store.now indicators.now) [] }
 {
     let g = four(kind, depth, pattern_width, set_width);
-    code(memory::read(g, store, indicators, Address::new(address)))
+    code(memory::read(g, store, indicators, Address::new(address)).map(Answer::Held))
 }
 
 // The value is the lowest address that holds the pattern, or 65,535 for none, and with it 65,536 times the words read and
@@ -120,7 +121,7 @@ pub fn cam_first_match(
     ensures { Coded (four kind depth pattern_width set_width) (first_match pattern) result (tables store.now indicators.now) (tables store.now indicators.now) [] }
 {
     let g = four(kind, depth, pattern_width, set_width);
-    code(memory::first_match(g, store, indicators, pattern))
+    code(memory::first_match(g, store, indicators, pattern).map(Answer::Searched))
 }
 
 // The bit of each address that holds the pattern is set in the match word, every other one is 0. The value is their number.
@@ -137,5 +138,7 @@ pub fn cam_all_match(
     ensures { Coded (four kind depth pattern_width set_width) (all_match pattern matches.old) result (tables store.now indicators.now) (tables store.now indicators.now) matches.new }
 {
     let g = four(kind, depth, pattern_width, set_width);
-    code(memory::all_match(g, store, indicators, matches, pattern))
+    code(memory::all_match(g, store, indicators, matches, pattern).map(|hits| Answer::Matched {
+        hits,
+    }))
 }

@@ -1,67 +1,61 @@
 -- What a check tells that accepted or refused, and what a row is that the code tests.
 use Prim.Native.Nat.{ℕ}
 use mathlib.Core.Path.{◌≡◌, refl, sym, ap, ◌∙◌}
-use mathlib.Core.Bool.{Bool, true, false, cond}
+use mathlib.Core.Bool.{Bool, true, false, cond, false≢true, and-false, and-eq-true_iff}
 use native.Mathlib.Omega.{arith}
-use borrow.Author.Tests.{not-false}
+use Rattle.std.specs.Prelude.{Result, Ok, Err, Option, Some, None, option_map}
+use Rattle.std.specs.Option.{ok_or}
+use Rattle.std.specs.Result.{IsErr, IsErrAnd}
+use mathlib.Core.Logic.{◌⊎◌, inl, inr}
+use lib.Dec.{eqb}
+use borrow.Author.Tests.{not-false, eqb-true, eq-eqb, ne_eqb}
 use Rattle.geometry.specs.declared.Geometry.{Geometry}
 use Rattle.geometry.specs.Valid.{valid}
-use Rattle.geometry.specs.Stages.{tables_fit}
+use Rattle.geometry.specs.Stages.{tables_fit, indicator_words}
 use Rattle.sizes.specs.declared.Sizes.{Sizes}
+use Rattle.sizes.specs.declared.layout.Layout.{Layout}
 use Rattle.sizes.specs.SizesOf.{sizes_of}
 use Rattle.checks.specs.declared.Refusal.{Refusal}
-use Rattle.checks.specs.declared.Refusal.TheVariants.{BadGeometry}
-use Rattle.checks.specs.declared.Checked.{Checked}
-use Rattle.checks.specs.declared.Checked.TheVariants.{Accepted, Refused}
-use Rattle.checks.specs.Checks.{sizes_in, checked, and_row, checked_tables}
-use Rattle.checks.specs.Passed.{Sized}
+use Rattle.checks.specs.declared.Refusal.TheVariants.{BadGeometry, BadLengths}
+use Rattle.checks.specs.Checks.{sizes_given, checked, and_row, checked_tables}
+use Rattle.sizes.specs.SizesOf.{Sized}
+use Rattle.checks.specs.Passed.{Lent}
+use Rattle.sizes.proofs.Sizing.{sized_of, sizes-are}
 
 -- nothing is both refused and accepted
-pub never : {A : Type 0} {s : Sizes} {why : Refusal} → Refused why ≡ Accepted s → A
+pub never : {A : Type 0} {s : Sizes} {why : Refusal} → Err why ≡ Ok s → A
 never e = let z : ◌≡◌ {A = ℕ} 0 1 = cc in absurd (omega arith)
 
-pub checked-accepted : (g : Geometry) (s : Sizes) → checked g ≡ Accepted s → (valid g ≡ true) × (s ≡ sizes_of g)
+pub checked-accepted : (g : Geometry) (s : Sizes) → checked g ≡ Ok s → (valid g ≡ true) × (s ≡ sizes_of g)
 unfolding checked
 checked-accepted g s = go (valid g)
   where
-    go : (v : Bool) → cond v (Accepted (sizes_of g)) (Refused BadGeometry) ≡ Accepted s → (v ≡ true) × (s ≡ sizes_of g)
+    go : (v : Bool) → cond v (Ok (sizes_of g)) (Err BadGeometry) ≡ Ok s → (v ≡ true) × (s ≡ sizes_of g)
     go true e = (refl, cc)
     go false e = never e
 
-pub checked_refused : (g : Geometry) (why : Refusal) → checked g ≡ Refused why → valid g ≡ false
+pub checked_refused : (g : Geometry) (why : Refusal) → checked g ≡ Err why → valid g ≡ false
 unfolding checked
 checked_refused g why = go (valid g)
   where
-    go : (v : Bool) → cond v (Accepted (sizes_of g)) (Refused BadGeometry) ≡ Refused why → v ≡ false
+    go : (v : Bool) → cond v (Ok (sizes_of g)) (Err BadGeometry) ≡ Err why → v ≡ false
     go true e = never (sym e)
     go false e = refl
 
-pub sized_of : (g : Geometry) (s : Sizes) → valid g ≡ true → s ≡ sizes_of g → Sized g s
-unfolding sizes_of
-sized_of g s ok e = record {
-  is-valid = ok;
-  same-patterns = rw e;
-  same-sets = rw e;
-  same-words = rw e;
-  same-stages = rw e;
-  same-indicators = rw e;
-  same-matches = rw e;
-}
-
-pub checked-sized : (g : Geometry) (s : Sizes) → checked g ≡ Accepted s → Sized g s
+pub checked-sized : (g : Geometry) (s : Sizes) → checked g ≡ Ok s → Sized g s
 checked-sized g s e = let k = checked-accepted g s e in sized_of g s k.0 k.1
 
 -- a row that was passed
-pub row-accepted : (x : Checked) (why : Refusal) (test : Sizes → Bool) (s : Sizes) → and_row x why test ≡ Accepted s → (x ≡ Accepted s) × (test s ≡ false)
+pub row-accepted : (x : Result Sizes Refusal) (why : Refusal) (test : Sizes → Bool) (s : Sizes) → and_row x why test ≡ Ok s → (x ≡ Ok s) × (test s ≡ false)
 unfolding and_row
-row-accepted (Refused above) why test s e = never e
-row-accepted (Accepted s₀) why test s e = go (test s₀) refl e
+row-accepted (Err above) why test s e = never e
+row-accepted (Ok s₀) why test s e = go (test s₀) refl e
   where
-    go : (b : Bool) → test s₀ ≡ b → cond b (Refused why) (Accepted s₀) ≡ Accepted s → (Accepted s₀ ≡ Accepted s) × (test s ≡ false)
+    go : (b : Bool) → test s₀ ≡ b → cond b (Err why) (Ok s₀) ≡ Ok s → (◌≡◌ {A = Result Sizes Refusal} (Ok s₀) (Ok s)) × (test s ≡ false)
     go true q f = never f
     go false q f = let is : s₀ ≡ s = cc in (f, rw (← is) q)
 
-pub tables-accepted : (g : Geometry) (store indicators : ℕ) (s : Sizes) → checked_tables g store indicators ≡ Accepted s
+pub tables-accepted : (g : Geometry) (store indicators : ℕ) (s : Sizes) → checked_tables g store indicators ≡ Ok s
     → (valid g ≡ true) × (tables_fit g store indicators ≡ true) × (s ≡ sizes_of g)
 unfolding checked_tables
 tables-accepted g store indicators s e =
@@ -69,17 +63,45 @@ tables-accepted g store indicators s e =
     let first = checked-accepted g s both.0 in
     (first.0, not-false (tables_fit g store indicators) both.1, first.1)
 
--- the sizes that the code has of an accepted check
-pub sizes-told : {x : Checked} {z s : Sizes} → z ≡ sizes_in x → x ≡ Accepted s → z ≡ s
-unfolding sizes_in
-sizes-told is e = is ∙ ap sizes_in e
-
--- a row by the code's test: it counts only where the check accepted
-pub row-found : {r x y : Checked} (why : Refusal) {applies : Bool} (test : Sizes → Bool) → y ≡ and_row r why (λ s. applies) → r ≡ x
-    → ((s : Sizes) → x ≡ Accepted s → applies ≡ test s) → y ≡ and_row x why test
-unfolding and_row
-row-found {x} why {applies} test is found same = is ∙ ap (λ r. and_row r why (λ s. applies)) found ∙ go x same
+-- a layout is given exactly where the four numbers are a geometry
+pub laid : (g : Geometry) (o : Option Layout) → option_map (λ (l : Layout). l.geometry) o ≡ cond (valid g) (Some g) None → sizes_given (ok_or o BadGeometry) ≡ checked g
+unfolding checked
+laid g o = go o (valid g)
   where
-    go : (x : Checked) → ((s : Sizes) → x ≡ Accepted s → applies ≡ test s) → and_row x why (λ s. applies) ≡ and_row x why test
-    go (Refused above) same = refl
-    go (Accepted s) same = rw (same s refl)
+    go : (o : Option Layout) (v : Bool) → option_map (λ (l : Layout). l.geometry) o ≡ cond v (Some g) None
+        → sizes_given (ok_or o BadGeometry) ≡ cond v (Ok (sizes_of g)) (Err BadGeometry)
+    go None true e = absurd (cc)
+    go None false e = refl
+    go (Some l) true e = let same : l.geometry ≡ g = cc in ap (λ s. Ok s) (sizes-are g l.sizes (rw same at l.sized))
+    go (Some l) false e = absurd (cc)
+
+-- what `?` hands on is the refusal that it was given
+pub handed-on : {A : Type 0} (w : Refusal) (r : Result A Refusal) → IsErr r × IsErrAnd r (λ e. e ≡ w) → r ≡ Err w
+handed-on w (Ok x) h = absurd (false≢true h.0)
+handed-on w (Err e) h = ap (λ e. Err e) h.1
+
+-- rows 1 and 2 of lent tables: the first refuses; or the second does where the lengths do not fit
+module _ (g : Geometry) (store indicators : ℕ) where
+  pub tables-refused : {w : Refusal} → Err w ≡ checked g → Err w ≡ checked_tables g store indicators
+  unfolding checked_tables and_row
+  tables-refused e = rw (← e)
+
+  -- l is the layout that the code has
+  module _ (l : Layout) (given : Ok l.sizes ≡ checked g) (own : l.geometry ≡ g) where
+    sized-words : l.sizes.indicator_words ≡ indicator_words g
+    sized-words = rw own at l.sized.same-indicators
+
+    pub tables-fit : store ≡ g.depth → indicators ≡ l.sizes.indicator_words → Ok l.sizes ≡ checked_tables g store indicators
+    unfolding checked_tables and_row
+    tables-fit e f = rw (← given, eq-eqb _ _ e, eq-eqb _ _ (f ∙ sized-words))
+
+    pub tables-unfit : (store ≡ g.depth → ⊥) ⊎ (indicators ≡ l.sizes.indicator_words → ⊥) → Err BadLengths ≡ checked_tables g store indicators
+    unfolding checked_tables and_row
+    tables-unfit (inl n) = rw (← given, ne_eqb _ _ n)
+    tables-unfit (inr n) = rw (← given, ne_eqb indicators (indicator_words g) (λ e. n (e ∙ sym sized-words)), and-false)
+
+  pub tables-lent : (l : Layout) → Ok l.sizes ≡ checked_tables g store indicators → l.geometry ≡ g → Lent l.geometry l.sizes store indicators
+  tables-lent l e own =
+      let k = tables-accepted g store indicators l.sizes (sym e) in
+      let fit = (and-eq-true_iff (eqb store g.depth) (eqb indicators (indicator_words g))).0 k.1 in
+      record { sized = l.sized; entries = rw own (eqb-true _ _ fit.0); words = rw own (eqb-true _ _ fit.1) }

@@ -1,15 +1,20 @@
-// The rows of the table of refusals (rule 9.1 of docs/MEMORY.md) that a call tests before it looks at its tables. A row more is
-// one `and_row` by a test; the checks here are its uses.
+// The rows of the table of refusals (rule 9.1 of docs/MEMORY.md) that a call tests before it looks at its tables. A row more is one
+// `row` by a test; the checks here are its uses.
+// Numbers become `usize` by `as`: there is no `From` for it, and `TryFrom` would have a failure that cannot be.
 #![tactic(auto)]
 
-ghost use Rattle.std.specs.Prelude.{◌≡◌};
-ghost use Rattle.checks.specs.Checks.{number_of, checked, checked_tables, checked_matches, sizes_in, and_row, and_pattern};
+mod lent;
+
+ghost use Rattle.std.specs.Prelude.{◌≡◌, leb, eqb, not, IfOk};
+ghost use Rattle.geometry.specs.Sizes.{match_words};
+ghost use Rattle.checks.specs.Checks.{number_of, refused_if, sizes_given, checked, checked_tables};
 
 use geometry::Geometry;
-use sizes::Sizes;
+pub use lent::Tables;
+use sizes::Layout;
 
 // Why a call stops: a row of its table.
-#[derive(Clone, Copy)]
+#[derive(Clone, Copy, Debug, PartialEq, Eq)]
 pub enum Refusal {
     BadGeometry,
     BadLengths,
@@ -20,12 +25,12 @@ pub enum Refusal {
     BadTables,
 }
 
-impl Refusal {
-    // Its number (rules 9.1 and 9.3).
-    pub fn number(self) -> u32
-        ensures { result ≡ number_of self }
-    {
-        match self {
+// Its number (rules 9.1 and 9.3).
+impl From<Refusal> for u32 {
+    ghost from_gives = { λ why number. number ≡ number_of why };
+
+    fn from(why: Refusal) -> u32 {
+        match why {
             Refusal::BadGeometry => 1,
             Refusal::BadLengths => 2,
             Refusal::BadAddress => 3,
@@ -37,79 +42,44 @@ impl Refusal {
     }
 }
 
-// What a check gives.
-#[derive(Clone, Copy)]
-pub enum Checked {
-    Accepted(Sizes),
-    Refused(Refusal),
-}
-
-impl Checked {
-    // The sizes, for the test of a row: of a check that refused all zeros, which no row comes to see.
-    pub fn sizes(self) -> Sizes
-        ensures { result ≡ sizes_in self }
-    {
-        match self {
-            Checked::Accepted(sizes) => sizes,
-            Checked::Refused(_) => Sizes {
-                patterns: 0,
-                sets: 0,
-                row_words: 0,
-                stages: 0,
-                indicator_words: 0,
-                match_words: 0,
-            },
-        }
-    }
-
-    // One row more: its refusal where it applies, and no row above it was given.
-    pub fn and_row(self, why: Refusal, applies: bool) -> Checked
-        ensures { result ≡ and_row self why (λ sizes. applies) }
-    {
-        match self {
-            Checked::Accepted(sizes) => {
-                if applies {
-                    Checked::Refused(why)
-                } else {
-                    Checked::Accepted(sizes)
-                }
-            }
-            Checked::Refused(above) => Checked::Refused(above),
-        }
-    }
-
-    // Refusal 4 besides.
-    pub fn and_pattern(self, pattern: u32) -> Checked
-        ensures { result ≡ and_pattern self pattern }
-    {
-        self.and_row(Refusal::BadPattern, self.sizes().patterns <= pattern)
-    }
-}
-
-// The sizes, or refusal 1.
-pub fn geometry(g: Geometry) -> Checked
-    ensures { result ≡ checked g }
+// One row: its refusal where it applies. `?` behind it passes on to the next row.
+pub fn row(why: Refusal, applies: bool) -> Result<(), Refusal>
+    ensures { result ≡ refused_if why applies }
 {
-    if sizes::is_valid(g) {
-        Checked::Accepted(sizes::of(g))
+    if applies { Err(why) } else { Ok(()) }
+}
+
+// The layout, or refusal 1.
+pub fn geometry(g: Geometry) -> Result<Layout, Refusal>
+    ensures given { sizes_given result ≡ checked g }
+    ensures its_own { IfOk result (λ layout. layout.geometry ≡ g) }
+{
+    Layout::of(g).ok_or(Refusal::BadGeometry)
+}
+
+// The layout, or refusal 1 or 2, where a store and indicators of these lengths are lent.
+pub fn tables(g: Geometry, store: usize, indicators: usize) -> Result<Layout, Refusal>
+    ensures given { sizes_given result ≡ checked_tables g store indicators }
+    ensures its_own { IfOk result (λ layout. layout.geometry ≡ g) }
+{
+    let layout = geometry(g)?;
+    if store == g.depth as usize && indicators == layout.sizes.indicator_words {
+        Ok(layout)
     } else {
-        Checked::Refused(Refusal::BadGeometry)
+        Err(Refusal::BadLengths)
     }
 }
 
-// The sizes, or refusal 1 or 2, where a store and indicators of these lengths are lent.
-pub fn tables(g: Geometry, store: usize, indicators: usize) -> Checked
-    ensures { result ≡ checked_tables g store indicators }
+// Refusal 2 besides, where a match word of this length is lent too.
+pub fn match_word(layout: Layout, length: usize) -> Result<(), Refusal>
+    ensures { result ≡ refused_if Refusal.BadLengths (not (eqb length (match_words layout.geometry))) }
 {
-    let checked = geometry(g);
-    let fit = store == g.depth as usize && indicators == checked.sizes().indicator_words;
-    checked.and_row(Refusal::BadLengths, !fit)
+    row(Refusal::BadLengths, length != layout.sizes.match_words)
 }
 
-// The same, where a match word of this length is lent too.
-pub fn matches(g: Geometry, store: usize, indicators: usize, matches: usize) -> Checked
-    ensures { result ≡ checked_matches g store indicators matches }
+// Refusal 4 besides.
+pub fn pattern(layout: Layout, pattern: u32) -> Result<(), Refusal>
+    ensures { result ≡ refused_if Refusal.BadPattern (leb layout.sizes.patterns pattern) }
 {
-    let checked = tables(g, store, indicators);
-    checked.and_row(Refusal::BadLengths, matches != checked.sizes().match_words)
+    row(Refusal::BadPattern, layout.sizes.patterns <= pattern)
 }

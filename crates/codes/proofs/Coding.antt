@@ -8,23 +8,23 @@ use Rattle.reference.specs.Tables.{Tables}
 use Rattle.reference.specs.Steps.{Outcome, step}
 use Rattle.reference.specs.Resume.{Resumption, resume_step}
 use Rattle.calls.specs.declared.Answer.{Answer}
-use Rattle.calls.specs.declared.Answer.TheVariants.{Refused, Cleared, Held, At, None, Matched}
+use Rattle.calls.specs.declared.Answer.TheVariants.{Cleared, Held, Searched, Matched}
+use Rattle.checks.specs.declared.Refusal.{Refusal}
+use Rattle.std.specs.Prelude.{Result, Ok, Err}
 use Rattle.calls.specs.Answers.{answer_for, tables, left}
-use Rattle.resume.specs.declared.Resumed.{Resumed}
 use Rattle.resume.specs.Resumed.{refusal_for, gone}
 use Rattle.codes.specs.Codes.{code_of, resume_code, Coded, ResumeCoded}
 
 -- The number does not depend on the match word.
-code_any : (r : Answer) (m : List ℕ) → code_of (answer_for r []) ≡ code_of (answer_for r m)
-code_any (Refused why) m = refl
-code_any Cleared m = refl
-code_any (Held e) m = refl
-code_any (At a w n) m = refl
-code_any (None w n) m = refl
-code_any (Matched n) m = refl
+code_any : (r : Result Answer Refusal) (m : List ℕ) → code_of (answer_for r []) ≡ code_of (answer_for r m)
+code_any (Err why) m = refl
+code_any (Ok Cleared) m = refl
+code_any (Ok (Held e)) m = refl
+code_any (Ok (Searched s)) m = refl
+code_any (Ok (Matched n)) m = refl
 
 -- The code's call was made with geometry h and call d, which are those of the contract.
-pub coded : {g : Geometry} {c : Call (List ℕ)} {t : Tables} {s i m : List ℕ} {n : ℕ} (h : Geometry) (d : Call (List ℕ)) (r : Answer) → h ≡ g → d ≡ c → left r s i m ≡ step h t d → n ≡ code_of (answer_for r []) → Coded g c n t (tables s i) m
+pub coded : {g : Geometry} {c : Call (List ℕ)} {t : Tables} {s i m : List ℕ} {n : ℕ} (h : Geometry) (d : Call (List ℕ)) (r : Result Answer Refusal) → h ≡ g → d ≡ c → left r s i m ≡ step h t d → n ≡ code_of (answer_for r []) → Coded g c n t (tables s i) m
 coded {m = m} h d r same-geometry same-call e number =
     rw (← same-geometry, ← same-call)
     (record {
@@ -34,7 +34,7 @@ coded {m = m} h d r same-geometry same-call e number =
     })
 
 -- The same of a resume.
-pub resume-coded : {g : Geometry} {s i : List ℕ} {n : ℕ} (h : Geometry) (r : Resumed) → h ≡ g → gone r s i ≡ resume_step h (tables s i)
+pub resume-coded : {g : Geometry} {s i : List ℕ} {n : ℕ} (h : Geometry) (r : Result (Unit {0}) Refusal) → h ≡ g → gone r s i ≡ resume_step h (tables s i)
     → n ≡ resume_code (refusal_for r) → ResumeCoded g n (tables s i) (tables s i)
 resume-coded h r same e number =
     rw (← same) (record { number = number ∙ ap (λ (o : Resumption). resume_code o.refusal) e; tables = ap (λ (o : Resumption). o.tables) e })

@@ -2,6 +2,7 @@
 use Prim.Native.Nat.{ℕ, ◌^◌, ◌<◌}
 use mathlib.Core.Path.{◌≡◌, sym, ap, ◌∙◌}
 use native.Mathlib.Omega.{arith}
+use Rattle.std.specs.Prelude.{Err}
 use Rattle.geometry.specs.declared.Geometry.{Geometry}
 use Rattle.geometry.specs.Sizes.{match_words}
 use Rattle.geometry.proofs.Facts.{facts}
@@ -9,16 +10,15 @@ use Rattle.geometry.proofs.Bounds.{words-few, indicators-few}
 use Rattle.sizes.specs.declared.Sizes.{Sizes}
 use Rattle.checks.specs.declared.Refusal.{Refusal}
 use Rattle.checks.specs.declared.Refusal.TheVariants.{BadGeometry}
-use Rattle.checks.specs.declared.Checked.TheVariants.{Refused}
 use Rattle.checks.specs.Checks.{number_of, checked}
-use Rattle.checks.specs.Passed.{Sized}
+use Rattle.sizes.specs.SizesOf.{Sized}
 use Rattle.checks.proofs.Acceptance.{checked_refused}
 use Rattle.codes.specs.Codes.{size_code}
 
-pub size-refused : (g : Geometry) {why : Refusal} {n : ℕ} (words : Geometry → ℕ) → checked g ≡ Refused why → n ≡ number_of why → n ≡ size_code g words
+pub size-refused : (g : Geometry) {why : Refusal} {n : ℕ} (words : Geometry → ℕ) → Err why ≡ checked g → n ≡ number_of why → n ≡ size_code g words
 unfolding size_code checked
 size-refused g {why} words is number =
-    let bad = checked_refused g why is in
+    let bad = checked_refused g why (sym is) in
     let which : BadGeometry ≡ why = cc in
     rw bad (number ∙ ap number_of (sym which))
 

@@ -9,10 +9,9 @@ ghost use Rattle.calls.specs.Answers.{answer_for};
 ghost use Rattle.resume.specs.Resumed.{refusal_for};
 ghost use Rattle.codes.specs.Codes.{code_of, resume_code, size_code, four};
 
-use calls::Answer;
-use checks::Checked;
+use calls::{Answer, Search};
+use checks::Refusal;
 use geometry::Geometry;
-use resume::Resumed;
 
 // The geometry of the four numbers.
 pub fn four(kind: u32, depth: u32, pattern_width: u32, set_width: u32) -> Geometry
@@ -26,38 +25,50 @@ pub fn four(kind: u32, depth: u32, pattern_width: u32, set_width: u32) -> Geomet
     }
 }
 
-// The number of an answer.
-pub fn code(answer: Answer) -> u64
+// The number of an answer. A search has an arm for each way it ends: the sums differ in what stands for the address.
+pub fn code(answer: Result<Answer, Refusal>) -> u64
     ensures { result ≡ code_of (answer_for answer []) }
 {
     match answer {
-        Answer::Refused(why) => why.number() as u64,
-        Answer::Cleared => 256,
-        Answer::Held(entry) => 256 + entry.word() as u64,
-        Answer::At {
-            address,
-            words_read,
-            entries_compared,
-        } => {
-            256 + address.number() as u64
-                + 65536 * words_read as u64
-                + 0x1_0000_0000 * entries_compared as u64
+        Err(why) => u64::from(u32::from(why)),
+        Ok(Answer::Cleared) => 256,
+        Ok(Answer::Held(entry)) => 256 + u64::from(calls::word(entry)),
+        Ok(
+            Answer::Searched(
+                Search {
+                    address: Some(address),
+                    words_read,
+                    entries_compared,
+                },
+            ),
+        ) => {
+            256 + u64::from(address.number())
+                + 65536 * u64::from(words_read)
+                + 0x1_0000_0000 * u64::from(entries_compared)
         }
-        Answer::None {
-            words_read,
-            entries_compared,
-        } => 256 + 65535 + 65536 * words_read as u64 + 0x1_0000_0000 * entries_compared as u64,
-        Answer::Matched { hits } => 256 + hits as u64,
+        Ok(
+            Answer::Searched(
+                Search {
+                    address: None,
+                    words_read,
+                    entries_compared,
+                },
+            ),
+        ) => 256
+            + 65535
+            + 65536 * u64::from(words_read)
+            + 0x1_0000_0000 * u64::from(entries_compared),
+        Ok(Answer::Matched { hits }) => 256 + u64::from(hits),
     }
 }
 
 // The number of an answer to a resume.
-pub fn resume_code(answer: Resumed) -> u64
+pub fn resume_code(answer: Result<(), Refusal>) -> u64
     ensures { result ≡ resume_code (refusal_for answer) }
 {
     match answer {
-        Resumed::Accepted => 256,
-        Resumed::Refused(why) => why.number() as u64,
+        Ok(()) => 256,
+        Err(why) => u64::from(u32::from(why)),
     }
 }
 
@@ -72,12 +83,13 @@ pub fn lengths_of(g: Geometry) -> Lengths
     ensures { (result.indicators ≡ size_code g indicator_words) × (result.matches ≡ size_code g match_words) }
 {
     match checks::geometry(g) {
-        Checked::Accepted(sizes) => Lengths {
-            indicators: 256 + sizes.indicator_words as u64,
-            matches: 256 + sizes.match_words as u64,
+        // By `as`: a `usize` has no `From` into 64 bits.
+        Ok(layout) => Lengths {
+            indicators: 256 + layout.sizes.indicator_words as u64,
+            matches: 256 + layout.sizes.match_words as u64,
         },
-        Checked::Refused(why) => {
-            let number = why.number() as u64;
+        Err(why) => {
+            let number = u64::from(u32::from(why));
             Lengths {
                 indicators: number,
                 matches: number,

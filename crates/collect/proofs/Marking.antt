@@ -3,13 +3,13 @@
 use Prim.Native.Nat.{ℕ, ◌+◌, ◌*◌, ◌/◌, ◌%◌, ◌<◌, ◌≤◌}
 use mathlib.Core.Path.{◌≡◌, refl, sym, ap, ◌∙◌}
 use mathlib.Core.Bool.{Bool, true, false, cond, not, ◌&&◌, ◌||◌, and-eq-true_iff, and-true, and-false, and_assoc, and-or_distrib_left, or_self, or-false, or_comm}
-use mathlib.Core.List.{List, []}
+use mathlib.Core.List.{List}
 use native.Mathlib.Omega.{arith}
 use lib.Dec.{eqb, ltb}
 use lib.Bits.{or_zero_l}
 use lib.ListN.{length, get_or, replicate, length-replicate, get_or-replicate}
 use lib.Seq.{ext_get_or}
-use borrow.Author.Tests.{eqb-true, ltb-true, ltb-false, eq-eqb, ne_eqb, lt-ltb, le-ltb}
+use borrow.Author.Tests.{eqb-true, ltb-true, ltb-false, eq-eqb, lt-ltb, le-ltb}
 use Rattle.words.specs.Bits.{bit, bit_words, set_bit, clear_bit, change_bit}
 use Rattle.words.proofs.Rules.{both_ways, digits_same, length-tabulate, get_or-tabulate, tabulate-ext}
 use Rattle.words.proofs.Bits.{bits-equal, bit-zero, bit-or, bit-set, bit-clear, bit-change, bit-word-all, length-change_bit}
@@ -20,7 +20,6 @@ use Rattle.geometry.proofs.Facts.{Facts}
 use Rattle.geometry.proofs.Places.{offset-lt, address_same, word_lt}
 use Rattle.reference.specs.Tables.{Tables, stored_word}
 use Rattle.reference.specs.Search.{joined, indicated, chosen, taken}
-use Rattle.calls.specs.Answers.{tables}
 use Rattle.search.proofs.Seeking.{joined-in-sets}
 use Rattle.collect.specs.Marks.{marked, in_word}
 
@@ -29,9 +28,6 @@ use Rattle.collect.specs.Marks.{marked, in_word}
 pub length_marked : (r : ℕ → Bool) (ws : List ℕ) → length (marked r ws) ≡ length ws
 unfolding marked
 length_marked r ws = length-tabulate (length ws) _
-
-pub same-marks : (r q : ℕ → Bool) (m ws : List ℕ) → marked r m ≡ marked q ws → length m ≡ length ws
-same-marks r q m ws e = sym (length_marked r m) ∙ ap length e ∙ length_marked q ws
 
 -- words that were zero hold the rule alone
 pub marked-zeros : (r : ℕ → Bool) (n : ℕ) → marked r (replicate n 0) ≡ bit_words n r
@@ -116,11 +112,11 @@ next-part false false x y same = refl
 -- In the segmented kind an address of an indicated set is taken where the code finds its entry equal to the key, in the
 -- others always.
 module _ (g : Geometry) (t : Tables) (key a : ℕ) (inside : a < g.depth) where
-  pub chosen-all : (g.kind ≡ segmented → ⊥) → chosen g t key a ≡ true
-  chosen-all h = rw (lt-ltb a g.depth inside, ne_eqb g.kind segmented h)
+  pub chosen-all : eqb g.kind segmented ≡ false → chosen g t key a ≡ true
+  chosen-all k = rw (lt-ltb a g.depth inside, k)
 
-  pub chosen-equal : (v : ℕ) → v ≡ stored_word t a → g.kind ≡ segmented → chosen g t key a ≡ eqb v key
-  chosen-equal v read e = rw (lt-ltb a g.depth inside, e, ← read)
+  pub chosen-equal : eqb g.kind segmented ≡ true → (v : ℕ) → v ≡ stored_word t a → chosen g t key a ≡ eqb v key
+  chosen-equal k v read = rw (lt-ltb a g.depth inside, k, ← read)
 
 -- ---- a set
 
@@ -129,9 +125,9 @@ unfoldable pub taken_before : Geometry → Tables → (key s o a : ℕ) → Bool
 taken_before g t key s o a = (eqb (set_of g a) s && ltb (offset_of g a) o) && chosen g t key a
 
 module _ (g : Geometry) (t : Tables) (key s : ℕ) (ws : List ℕ) where
-  pub set-start : ws ≡ marked (taken_before g t key s 0) ws
+  pub set-start : (o : ℕ) → o ≡ 0 → ws ≡ marked (taken_before g t key s o) ws
   unfolding taken_before
-  set-start = sym (marked-none _ ws (λ a. rw (le-ltb (offset_of g a) 0 (omega arith), and-false (eqb (set_of g a) s))))
+  set-start o e = sym (marked-none _ ws (λ a. rw (le-ltb (offset_of g a) o (omega arith), and-false (eqb (set_of g a) s))))
 
   -- at offset o the bit of its address is set where a test says that the address is taken
   pub set-step : Facts g → (o a : ℕ) → a ≡ address_of g s o → o < set_length g s → (m : List ℕ) → a / 64 < length m → m ≡ marked (taken_before g t key s o) ws
@@ -198,32 +194,36 @@ module _ (g : Geometry) (t : Tables) (key j : ℕ) where
 unfoldable pub taken_below : Geometry → Tables → (key j a : ℕ) → Bool
 taken_below g t key j a = ltb (set_of g a / 64) j && taken g t key a
 
-module _ (g : Geometry) (store indicators : List ℕ) (key : ℕ) (ws : List ℕ) where
-  pub all_start : ws ≡ marked (taken_below g (tables store indicators) key 0) ws
+module _ (g : Geometry) (t : Tables) (key : ℕ) (ws : List ℕ) where
+  pub all_start : (j : ℕ) → j ≡ 0 → ws ≡ marked (taken_below g t key j) ws
   unfolding taken_below
-  all_start = sym (marked-none _ ws (λ a. rw (le-ltb (set_of g a / 64) 0 (omega arith))))
+  all_start j e = sym (marked-none _ ws (λ a. rw (le-ltb (set_of g a / 64) j (omega arith))))
 
-  pub all-step : (j w : ℕ) → w ≡ joined g (tables [] indicators) key j → (m last : List ℕ) → m ≡ marked (taken_below g (tables store indicators) key j) ws
-      → last ≡ marked (λ a. in_word w j (set_of g a) && chosen g (tables store []) key a) m → last ≡ marked (taken_below g (tables store indicators) key (j + 1)) ws
-  unfolding taken_below taken indicated joined
-  all-step j w e m last before done =
-      done
-      ∙ rw before
-      (marked-twice _ _ _ ws
-      (λ a. let s = set_of g a in rw (below_next (s / 64) j, and_assoc (eqb (s / 64) j)) (next-part (ltb (s / 64) j) _ _ _ (λ q. ap (λ x. x && chosen g (tables store []) key a) (here s q)))))
-    where
-      here : (s : ℕ) → eqb (s / 64) j ≡ true → indicated g (tables store indicators) key s ≡ bit w (s % 64)
-      here s q = rw (eqb-true (s / 64) j q, e)
+  -- row word j, which is w, is passed: the addresses of its sets that are taken are marked, and of a word that is 0 there are none
+  module _ (j w : ℕ) (is : w ≡ joined g t key j) (m : List ℕ) (before : m ≡ marked (taken_below g t key j) ws) where
+    pub all-step : (last : List ℕ) → last ≡ marked (λ a. in_word w j (set_of g a) && chosen g t key a) m → last ≡ marked (taken_below g t key (j + 1)) ws
+    unfolding taken_below taken indicated
+    all-step last done =
+        done
+        ∙ rw before
+        (marked-twice _ _ _ ws
+        (λ a. let s = set_of g a in rw (below_next (s / 64) j, and_assoc (eqb (s / 64) j)) (next-part (ltb (s / 64) j) _ _ _ (λ q. ap (λ x. x && chosen g t key a) (here s q)))))
+      where
+        here : (s : ℕ) → eqb (s / 64) j ≡ true → indicated g t key s ≡ bit w (s % 64)
+        here s q = rw (eqb-true (s / 64) j q, is)
+
+    pub zero-step : w ≡ 0 → m ≡ marked (taken_below g t key (j + 1)) ws
+    zero-step e = all-step m (sym (marked-none _ m (λ a. rw (e, bit-zero, and-false (eqb (set_of g a / 64) j)))))
 
   -- every set that is indicated has its bit in a row word
-  pub all_end : Facts g → (j : ℕ) → row_words g ≤ j → marked (taken_below g (tables store indicators) key j) ws ≡ marked (taken g (tables store indicators) key) ws
+  pub all_end : Facts g → (j : ℕ) → row_words g ≤ j → marked (taken_below g t key j) ws ≡ marked (taken g t key) ws
   unfolding taken_below taken indicated
   all_end f j h =
       marked-ext _ _ ws
       (λ a. both_ways _ _ (λ e. ((and-eq-true_iff (ltb (set_of g a / 64) j) _).0 e).1) (λ e. (and-eq-true_iff _ _).1 (below a e, e)))
     where
-      below : (a : ℕ) → taken g (tables store indicators) key a ≡ true → ltb (set_of g a / 64) j ≡ true
+      below : (a : ℕ) → taken g t key a ≡ true → ltb (set_of g a / 64) j ≡ true
       below a e =
           let s = set_of g a in
-          let inside = joined-in-sets g (tables store indicators) key (s / 64) (s % 64) ((and-eq-true_iff _ _).0 e).0 in
+          let inside = joined-in-sets g t key (s / 64) (s % 64) ((and-eq-true_iff _ _).0 e).0 in
           lt-ltb (s / 64) j (omega (arith, word_lt g f s (omega arith)))

@@ -1,120 +1,83 @@
 // All-match: whether an indicated set is false, and the addresses of the indicated sets that it takes (rules 8.8 and 8.9 of
-// docs/MEMORY.md). What the functions here ask is what the check of the call has shown: a valid geometry and its sizes, tables
-// and a match word of their lengths. That a set is one of the geometry's follows from the joined word, which has no bit of
-// padding.
+// docs/MEMORY.md). That a set is one of the geometry's follows from the joined word, which has no bit of padding.
 #![tactic(auto)]
 
-ghost use Rattle.std.specs.Prelude.{◌+◌, ◌*◌, ◌<◌, ◌≡◌, true, ◌&&◌, [], eqb, length};
+ghost use Rattle.std.specs.Prelude.{◌+◌, ◌*◌, ◌<◌, ◌≡◌, ◌&&◌, eqb, length};
 ghost use Rattle.words.specs.Rules.{any};
 ghost use Rattle.words.specs.Bits.{bit};
-ghost use Rattle.geometry.specs.Valid.{valid};
-ghost use Rattle.geometry.specs.Sizes.{sets, match_words, set_of};
-ghost use Rattle.reference.specs.Search.{is_false, in_set, any_is_false, chosen, taken};
-ghost use Rattle.checks.specs.Passed.{Lent};
-ghost use Rattle.calls.specs.Answers.{tables};
-ghost use Rattle.search.specs.Rows.{InSets};
+ghost use Rattle.geometry.specs.declared.Kind.TheVariants.{Segmented};
+ghost use Rattle.geometry.specs.Sizes.{sets, row_words, match_words, set_of};
+ghost use Rattle.reference.specs.Search.{joined, is_false, in_set, any_is_false, chosen, taken};
+ghost use Rattle.calls.specs.Answers.{tables_in};
 ghost use Rattle.collect.specs.Marks.{marked, in_word};
 
-use geometry::{Geometry, SEGMENTED};
-use places::{Offset, RowWord, SetIndex};
-use sizes::Sizes;
+use checks::Tables;
+use geometry::Kind;
+use places::{RowWord, SetIndex};
 
-// Whether a set that is indicated is false: the segmented kind, and no entry is the key.
-fn is_false(g: Geometry, store: &[u32], set: SetIndex, key: u32) -> bool
-    requires { (valid g ≡ true) × (length store.now ≡ g.depth) × (set.0 < sets g) }
-    ensures { result ≡ is_false (in_set g (tables store.now []) key set.0 0) }
+// Whether a set that is indicated is false: no entry is the key.
+fn is_false(tables: &Tables<'_>, set: SetIndex, key: u32) -> bool
+    requires { (tables.now.layout.kind ≡ Segmented) × (set.0 < sets tables.now.layout.geometry) }
+    ensures { result ≡ is_false (in_set tables.now.layout.geometry (tables_in tables.now) key set.0 0) }
 {
-    if g.kind != SEGMENTED {
-        return false;
-    }
-    let length = set.length(g);
-    let mut at = Offset::first();
-    while at.is_within(length) {
-        if set.address(at, g).word(store) == key {
-            return false;
-        }
-        at = at.next();
-    }
-    true
+    let layout = tables.layout;
+    !set.length(layout)
+        .offsets()
+        .any(|at| set.address(at, layout).word(tables.store) == key)
 }
 
 // Whether a set that row word `j` indicates is false.
-fn word_is_false(g: Geometry, store: &[u32], word: u64, j: RowWord, key: u32) -> bool
-    requires { (valid g ≡ true) × (length store.now ≡ g.depth) × InSets g word j.0 }
-    ensures { result ≡ any 64 (λ b. bit word b && is_false (in_set g (tables store.now []) key (64 * j.0 + b) 0)) }
+fn word_is_false(tables: &Tables<'_>, j: RowWord, key: u32) -> bool
+    requires { (tables.now.layout.kind ≡ Segmented) × (j.0 < row_words tables.now.layout.geometry) }
+    ensures { result ≡ any 64 (λ b. bit (joined tables.now.layout.geometry (tables_in tables.now) key j.0) b && is_false (in_set tables.now.layout.geometry (tables_in tables.now) key (64 * j.0 + b) 0)) }
 {
-    let mut rest = word;
-    while rest != 0 {
-        let set = SetIndex::lowest(rest, j);
-        if is_false(g, store, set, key) {
-            return true;
-        }
-        rest = set.without(rest);
-    }
-    false
+    j.sets(search::joined(tables.layout, tables.indicators, key, j))
+        .any(|set| is_false(tables, set, key))
 }
 
-// Whether any indicated set is false.
-pub fn any_is_false(g: Geometry, sizes: Sizes, store: &[u32], indicators: &[u64], key: u32) -> bool
-    requires { Lent g sizes (length store.now) (length indicators.now) }
-    ensures { result ≡ any_is_false g (tables store.now indicators.now) key }
+// Whether any indicated set is false. Only the segmented kind has false sets.
+pub fn any_is_false(tables: &Tables<'_>, key: u32) -> bool
+    ensures { result ≡ any_is_false tables.now.layout.geometry (tables_in tables.now) key }
 {
-    let mut j = RowWord::first();
-    while j.is_within(sizes) {
-        let word = search::joined(g, sizes, indicators, key, j);
-        if word_is_false(g, store, word, j, key) {
-            return true;
-        }
-        j = j.next();
-    }
-    false
+    tables.layout.kind == Kind::Segmented
+        && RowWord::all(tables.layout).any(|j| word_is_false(tables, j, key))
 }
 
-// Marks what all-match takes of an indicated set: in the segmented kind the addresses that have the key, else all.
-fn take_set(g: Geometry, store: &[u32], matches: &mut [u64], set: SetIndex, key: u32)
-    requires { (valid g ≡ true) × (length store.now ≡ g.depth) × (length matches.old ≡ match_words g) × (set.0 < sets g) }
-    ensures { matches.new ≡ marked (λ a. eqb (set_of g a) set.0 && chosen g (tables store.now []) key a) matches.old }
+// Marks what all-match takes of an indicated set: in the segmented kind the addresses that have the key, else all. The match word is lent
+// beside the tables: a method of a struct with it would have to ensure besides that the struct lends the same one still.
+fn take_set(tables: &Tables<'_>, matches: &mut [u64], set: SetIndex, key: u32)
+    requires { (length matches.old ≡ match_words tables.now.layout.geometry) × (set.0 < sets tables.now.layout.geometry) }
+    ensures { matches.new ≡ marked (λ a. eqb (set_of tables.now.layout.geometry a) set.0 && chosen tables.now.layout.geometry (tables_in tables.now) key a) matches.old }
 {
-    let length = set.length(g);
-    let mut at = Offset::first();
-    while at.is_within(length) {
-        let address = set.address(at, g);
-        if g.kind != SEGMENTED || address.word(store) == key {
+    let Tables { layout, store, .. } = *tables;
+    for at in set.length(layout).offsets() {
+        let address = set.address(at, layout);
+        if layout.kind != Kind::Segmented || address.word(store) == key {
             address.mark(matches);
         }
-        at = at.next();
     }
 }
 
-// Marks what all-match takes of the sets that row word `j` indicates.
-fn take_word(g: Geometry, store: &[u32], matches: &mut [u64], word: u64, j: RowWord, key: u32)
-    requires { (valid g ≡ true) × (length store.now ≡ g.depth) × (length matches.old ≡ match_words g) × InSets g word j.0 }
-    ensures { matches.new ≡ marked (λ a. in_word word j.0 (set_of g a) && chosen g (tables store.now []) key a) matches.old }
+// Marks what all-match takes of the sets that row word `j` indicates. Most words are 0: the loop over them is quicker without its code.
+#[inline(never)]
+fn take_word(tables: &Tables<'_>, matches: &mut [u64], word: u64, j: RowWord, key: u32)
+    requires { (length matches.old ≡ match_words tables.now.layout.geometry) × (j.0 < row_words tables.now.layout.geometry) × (word ≡ joined tables.now.layout.geometry (tables_in tables.now) key j.0) }
+    ensures { matches.new ≡ marked (λ a. in_word word j.0 (set_of tables.now.layout.geometry a) && chosen tables.now.layout.geometry (tables_in tables.now) key a) matches.old }
 {
-    let mut rest = word;
-    while rest != 0 {
-        let set = SetIndex::lowest(rest, j);
-        take_set(g, store, matches, set, key);
-        rest = set.without(rest);
+    for set in j.sets(word) {
+        take_set(tables, matches, set, key);
     }
 }
 
 // Marks every address that all-match takes.
-pub fn take_all(
-    g: Geometry,
-    sizes: Sizes,
-    store: &[u32],
-    indicators: &[u64],
-    matches: &mut [u64],
-    key: u32,
-)
-    requires { Lent g sizes (length store.now) (length indicators.now) × (length matches.old ≡ match_words g) }
-    ensures { matches.new ≡ marked (taken g (tables store.now indicators.now) key) matches.old }
+pub fn take_all(tables: &Tables<'_>, matches: &mut [u64], key: u32)
+    requires { length matches.old ≡ match_words tables.now.layout.geometry }
+    ensures { matches.new ≡ marked (taken tables.now.layout.geometry (tables_in tables.now) key) matches.old }
 {
-    let mut j = RowWord::first();
-    while j.is_within(sizes) {
-        let word = search::joined(g, sizes, indicators, key, j);
-        take_word(g, store, matches, word, j, key);
-        j = j.next();
+    for j in RowWord::all(tables.layout) {
+        let word = search::joined(tables.layout, tables.indicators, key, j);
+        if word != 0 {
+            take_word(tables, matches, word, j, key);
+        }
     }
 }

@@ -6,8 +6,8 @@ use Rattle.reference.specs.Calls.{Call, refused}
 use Rattle.reference.specs.Tables.{Tables}
 use Rattle.reference.specs.Steps.{Outcome}
 use Rattle.calls.specs.Answers.{lent_step}
-use Rattle.figures.specs.Figures.{Bytes}
-use Rattle.figures.specs.Appended.{Appended}
+use Rattle.figures.specs.declared.Page.{Page}
+use Rattle.figures.specs.Sheet.{Prints}
 use Rattle.report.specs.Lines.{answer_line}
 use Rattle.jobfile.specs.declared.Command.{Command}
 use Rattle.jobfile.specs.Decoding.{decoded}
@@ -20,8 +20,8 @@ performed g t m (some call) = lent_step g t m call
 unfoldable pub commanded : Geometry → Tables → (lent : List ℕ) → Command → Outcome
 commanded g t m c = performed g t m (decoded m c)
 
--- A command is run and its line printed from `at` to r.
-pub record Obeys (o : Outcome) (number : ℕ) (after : Tables) (matches : List ℕ) (out out-after : Bytes) (at r : ℕ) : Type 0 where
-  pub line : Appended out out-after at r (answer_line number o.answer)
+-- A command is run and its line printed.
+pub record Obeys (o : Outcome) (number : ℕ) (after : Tables) (matches : List ℕ) (page page-after : Page) : Type 0 where
+  pub line : Prints page page-after (answer_line number o.answer)
   pub tables_after : after ≡ o.tables
   pub matches-after : matches ≡ o.matches

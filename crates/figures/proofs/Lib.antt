@@ -1,3 +1,4 @@
-pub mod Appending
-pub mod Places
+pub mod Digits
 pub mod Lengths
+pub mod Printing
+pub mod Places

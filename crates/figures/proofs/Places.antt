@@ -1,4 +1,4 @@
--- How many digits `io` spells: as many as it is told to where they hold the number, and in decimal the number's `places`.
+-- `places` is the fewest digits that decimal needs, as `io` counts digits.
 use Prim.Native.Nat.{ℕ, zero, suc, ◌-◌, ◌/◌, ◌^◌, ◌≤◌, ◌<◌}
 use mathlib.Core.Path.{◌≡◌, refl, ap}
 use mathlib.Core.Bool.{Bool, true, false}
@@ -12,7 +12,7 @@ use Rattle.io.specs.Digits.{IsDigitCount}
 use Rattle.figures.specs.Figures.{places}
 
 -- where the least number of digits holds n, no more are spelt
-pub fewest-least : (b least n k : ℕ) → IsDigitCount b least n k → 0 < b → n < b ^ least → k ≡ least
+fewest-least : (b least n k : ℕ) → IsDigitCount b least n k → 0 < b → n < b ^ least → k ≡ least
 fewest-least b least n k f positive holds = go (dec_lt least k)
   where
     go : Dec (least < k) → k ≡ least

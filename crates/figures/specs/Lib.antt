@@ -1,2 +1,4 @@
 pub mod Figures
+pub mod Pieces
+pub mod Sheet
 pub mod Appended

@@ -1,57 +1,114 @@
-// Texts and figures as bytes in a lent buffer.
+// Texts and figures, printed on a page: a lent buffer.
 //
-// Each function writes from `at` on and gives the place after its last byte. It asks for room for its bytes: whoever prints a line
-// has room for all of it.
+// Without `write!`: `fmt` says what was printed where it gives `Ok`, and no clause says when it does. Nothing here can fail: each
+// function asks for room instead, and whoever prints a line has room for all of it.
 #![tactic(auto)]
 
-ghost use Rattle.std.specs.Prelude.{◌+◌, ◌≤◌, ◌++◌, length};
+ghost use Rattle.std.specs.Prelude.{◌≤◌, ◌≡◌, ◌++◌, [], length};
 ghost use Rattle.figures.specs.Figures.{ascii, decimal, hexadecimal};
-ghost use Rattle.figures.specs.Appended.{Appended};
 
-pub fn put_bytes(out: &mut [u8], at: usize, bytes: &[u8]) -> usize
-    requires { at + length bytes.now ≤ length out.old }
-    ensures { Appended out.old out.new at result bytes.now }
-{
-    let mut i = 0;
-    while i < bytes.len() {
-        out[at + i] = bytes[i];
-        i += 1;
+// A piece of a line.
+#[derive(Clone, Copy)]
+pub enum Piece<'a> {
+    Text(&'a str),
+    Decimal(u32),
+    // Words of a match word in hexadecimal, with a space before each.
+    Words(&'a [u64]),
+}
+
+// A buffer whose first `at` bytes are printed.
+#[derive(Drop)]
+pub struct Page<'a> {
+    out: &'a mut [u8],
+    at: usize,
+    ghost within: { at ≤ length out.now },
+}
+
+impl<'a> Page<'a> {
+    ghost use Rattle.figures.specs.Pieces.{spaced_word, spaced, piece_bytes, all_bytes};
+    ghost use Rattle.figures.specs.Sheet.{sheet, Room, Prints};
+
+    // A page with nothing printed.
+    pub fn new(out: &'a mut [u8]) -> Page<'a>
+        ensures { sheet result ≡ record { buffer = out.entry.ghost_name; printed = []; rest = out.old } }
+    {
+        Page { out, at: 0 }
     }
-    at + i
-}
 
-pub fn put_decimal(out: &mut [u8], at: usize, n: u32) -> usize
-    requires { at + length (decimal n) ≤ length out.old }
-    ensures { Appended out.old out.new at result (decimal n) }
-{
-    let mut digits = [0u8; 20];
-    let count = io::decimal(n as u64, &mut digits);
-    put_bytes(out, at, &digits[..count])
-}
+    // The number of bytes that are printed.
+    pub fn len(&self) -> usize
+        ensures { result ≡ length (sheet self.now).printed }
+    {
+        self.at
+    }
 
-pub fn put_hexadecimal(out: &mut [u8], at: usize, word: u64) -> usize
-    requires { at + length (hexadecimal word) ≤ length out.old }
-    ensures { Appended out.old out.new at result (hexadecimal word) }
-{
-    let mut digits = [0u8; 16];
-    let count = io::hex(word, 16, &mut digits);
-    put_bytes(out, at, &digits[..count])
-}
+    #[tactic(auto, using(crate::proofs::Printing::turns))]
+    pub fn print(&mut self, pieces: &[Piece])
+        requires { Room self.old (all_bytes pieces.now) }
+        ensures { Prints self.old self.new (all_bytes pieces.now) }
+    {
+        for piece in pieces {
+            self.put(*piece);
+        }
+    }
 
-// A name, which has its spaces, and a figure.
-pub fn put_named(out: &mut [u8], at: usize, name: &[u8], n: u32) -> usize
-    requires { at + length (name.now ++ decimal n) ≤ length out.old }
-    ensures { Appended out.old out.new at result (name.now ++ decimal n) }
-{
-    let after = put_bytes(out, at, name);
-    put_decimal(out, after, n)
-}
+    pub fn put(&mut self, piece: Piece)
+        requires { Room self.old (piece_bytes piece) }
+        ensures { Prints self.old self.new (piece_bytes piece.entry) }
+    {
+        match piece {
+            Piece::Text(text) => self.put_bytes(text.as_bytes()),
+            Piece::Decimal(n) => self.put_decimal(n),
+            Piece::Words(words) => self.put_words(words),
+        }
+    }
 
-// A name and a figure that end their line.
-pub fn put_last(out: &mut [u8], at: usize, name: &[u8], n: u32) -> usize
-    requires { at + length (name.now ++ decimal n ++ ascii "\n") ≤ length out.old }
-    ensures { Appended out.old out.new at result (name.now ++ decimal n ++ ascii "\n") }
-{
-    let after = put_named(out, at, name, n);
-    put_bytes(out, after, b"\n")
+    #[tactic(auto, using(crate::proofs::Digits::decimal_shown))]
+    fn put_decimal(&mut self, n: u32)
+        requires { Room self.old (decimal n) }
+        ensures { Prints self.old self.new (decimal n) }
+    {
+        let mut digits = itoa::Buffer::new();
+        self.put_bytes(digits.format(n).as_bytes())
+    }
+
+    #[tactic(auto, using(crate::proofs::Printing::turns))]
+    fn put_words(&mut self, words: &[u64])
+        requires { Room self.old (spaced words.now) }
+        ensures { Prints self.old self.new (spaced words.now) }
+    {
+        for word in words {
+            self.put_word(*word);
+        }
+    }
+
+    #[tactic(auto, using(crate::proofs::Printing::both, crate::proofs::Printing::room_after), unfolding(crate::specs::Figures::ascii))]
+    fn put_word(&mut self, word: u64)
+        requires { Room self.old (spaced_word word) }
+        ensures { Prints self.old self.new (spaced_word word) }
+    {
+        self.put_bytes(b" ");
+        self.put_hexadecimal(word)
+    }
+
+    // A word alone. By `io`, since the crate `hex` gives a `Result` and has a table of its own.
+    #[tactic(auto, using(crate::proofs::Digits::sixteen))]
+    pub fn put_hexadecimal(&mut self, word: u64)
+        requires { Room self.old (hexadecimal word) }
+        ensures { Prints self.old self.new (hexadecimal word) }
+    {
+        let mut digits = [0; 16];
+        io::hex(word, 16, &mut digits);
+        self.put_bytes(&digits)
+    }
+
+    // Bytes as they are.
+    pub fn put_bytes(&mut self, bytes: &[u8])
+        requires { Room self.old bytes.now }
+        ensures { Prints self.old self.new bytes.now }
+    {
+        let end = self.at + bytes.len();
+        self.out[self.at..end].copy_from_slice(bytes);
+        self.at = end;
+    }
 }

@@ -3,3 +3,4 @@ pub mod Places
 pub mod Stages
 pub mod Bounds
 pub mod Boundaries
+pub mod Numbered

@@ -1,3 +1,4 @@
 pub mod Valid
+pub mod Kinds
 pub mod Sizes
 pub mod Stages

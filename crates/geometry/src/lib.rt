@@ -1,18 +1,40 @@
-// The four numbers of a memory and the numbers of the kinds. Which four are a geometry and what follows from it are
-// definitions, with their laws; the code of them is in `sizes`.
+// The four numbers of a memory and the kinds. Which four are a geometry and what follows from it are definitions, with their laws; the
+// code of them is in `sizes`.
 #![tactic(auto)]
 
-// The numbers of the kinds (rule 2.2 of docs/MEMORY.md). The rest of the code has them by name.
-pub const TRANSPOSED: u32 = 0;
+// The kinds (rule 2.2 of docs/MEMORY.md).
+#[derive(Clone, Copy, Debug, PartialEq, Eq)]
+pub enum Kind {
+    Transposed,
+    Cascaded,
+    Segmented,
+}
 
-pub const CASCADED: u32 = 1;
+// A number that is that of no kind.
+#[derive(Clone, Copy, Debug, PartialEq, Eq)]
+pub struct UnknownKind(pub u32);
 
-pub const SEGMENTED: u32 = 2;
+impl TryFrom<u32> for Kind {
+    ghost use Rattle.geometry.specs.Kinds.{kind_of};
+    ghost use Rattle.std.specs.Prelude.{◌≡◌};
 
-// The four numbers, as they come from a file or a caller: nothing is assumed of them.
-#[derive(Clone, Copy)]
+    type Error = UnknownKind;
+
+    ghost try_from_gives = { λ number result. result ≡ kind_of number };
+
+    fn try_from(number: u32) -> Result<Kind, UnknownKind> {
+        match number {
+            0 => Ok(Kind::Transposed),
+            1 => Ok(Kind::Cascaded),
+            2 => Ok(Kind::Segmented),
+            _ => Err(UnknownKind(number)),
+        }
+    }
+}
+
+// The four numbers, as they come from a file or a caller: nothing is assumed of them, so that the kind is a number, which may be none's.
+#[derive(Clone, Copy, Debug, PartialEq, Eq)]
 pub struct Geometry {
-    // One of the kinds, or a number that is none.
     pub kind: u32,
     // The number of addresses.
     pub depth: u32,

@@ -10,6 +10,8 @@ use Rattle.reference.specs.Array.{Array, emptied}
 use Rattle.reference.specs.Tables.{Tables}
 use Rattle.reference.specs.Image.{tables_of}
 use Rattle.figures.specs.Figures.{Bytes}
+use Rattle.figures.specs.declared.Page.{Page}
+use Rattle.figures.specs.Sheet.{Prints}
 use Rattle.figures.specs.Appended.{Appended}
 use Rattle.jobfile.specs.declared.Header.{Header}
 use Rattle.jobfile.specs.declared.Command.{Command}
@@ -38,8 +40,8 @@ pub record Ready (file : Bytes) (header : Header) (store indicators matches out 
   pub room : length (report file) ≤ out
 
 -- What a job leaves that runs on tables and a match word of its own lengths.
-pub record Runs (file : Bytes) (after : Tables) (lent matches : List ℕ) (out out-after : Bytes) (r : ℕ) : Type 0 where
-  pub bytes : Appended out out-after 0 r (report file)
+pub record Runs (file : Bytes) (after : Tables) (lent matches : List ℕ) (page page-after : Page) : Type 0 where
+  pub printed : Prints page page-after (report file)
   pub tables : after ≡ tables_of (geometry_of file) (job_array file)
   pub matches-after : matches ≡ matches_left (answers_of file) lent
 
@@ -73,6 +75,11 @@ leaves file none before =
       indicators = over t.indicators before.indicators;
       matches = over (matches_left (answers_of file) (take (match_words (geometry_of file)) before.matches)) before.matches;
     }
+
+-- Of any job on a page: its output is printed, and every word of every table is as said.
+pub record Works (file : Bytes) (before after : LentTables) (page page-after : Page) : Type 0 where
+  pub printed : Prints page page-after (output file)
+  pub tables : after ≡ leaves file (file_stop file) before
 
 -- Of any job: the first r bytes of the buffer are its output, the others as lent, and every word of every table is as said.
 pub record Ran (file : Bytes) (before after : LentTables) (out out-after : Bytes) (r : ℕ) : Type 0 where

@@ -1,3 +1,3 @@
-pub mod Reading
 pub mod Unstopped
+pub mod Reading
 pub mod Examples

@@ -1,49 +1,63 @@
--- Rows 1 to 4 of the table at a call, by the checks that test them: each a use of the lemma of one row more.
-use Prim.Native.Nat.{ℕ}
-use mathlib.Core.Path.{◌≡◌, refl, sym}
-use mathlib.Core.Bool.{Bool, false, or-false}
-use mathlib.Core.List.{List, ◌∷◌}
+-- Rows 1 and 2 of the table at a call, by the check of its tables, and which rows are then reached.
+use Rattle.std.proofs.Common.{ℕ, ◌<◌, ◌≡◌, refl, Bool, false, List, ◌∷◌, length, Ok, Err}
+use mathlib.Core.Option.{some}
 use lib.Dec.{leb}
-use lib.ListN.{length}
-use Rattle.machines.specs.Refusals.{RefusalRow, ◌given-when◌}
+use borrow.Author.Tests.{leb-false}
+use Rattle.machines.specs.Refusals.{RefusalRow, ◌given-when◌, first_refusal}
 use Rattle.geometry.specs.declared.Geometry.{Geometry}
-use Rattle.geometry.specs.Sizes.{match_words}
-use Rattle.reference.specs.Calls.{Call, all_match}
+use Rattle.geometry.specs.Sizes.{patterns}
+use Rattle.reference.specs.Calls.{Call}
 use Rattle.reference.specs.Refusals.{bad_address, bad_pattern}
 use Rattle.reference.specs.Tables.{Tables}
 use Rattle.reference.specs.Steps.{bad_lengths, bad_matches, own_refusals, refusals}
 use Rattle.sizes.specs.declared.Sizes.{Sizes}
-use Rattle.checks.specs.declared.Refusal.TheVariants.{BadAddress}
-use Rattle.checks.specs.declared.Checked.{Checked}
-use Rattle.checks.specs.Checks.{and_row, checked_tables, checked_matches, and_pattern}
-use Rattle.checks.specs.Passed.{Sized, Lent}
-use Rattle.checks.proofs.Rows.{Decides, geometry-row, row-tested, pattern-row, row-twice, tables-row, matches-row}
+use Rattle.sizes.specs.declared.layout.Layout.{Layout}
+use Rattle.checks.specs.declared.Refusal.{Refusal}
+use Rattle.checks.specs.declared.Refusal.TheVariants.{BadAddress, BadPattern}
+use Rattle.checks.specs.Checks.{number_of, refused_if, checked_tables}
+use Rattle.checks.specs.Passed.{Lent}
+use Rattle.checks.proofs.Acceptance.{tables-lent}
+use Rattle.checks.proofs.Rows.{Reaches, row-stops, row-passes, tables-stop, tables-pass, row-idle}
 
--- The tables have the lengths that the sizes ask for.
-abbrev pub LentAs : Geometry → Tables → Sizes → Type 0
-LentAs g t z = Lent g z (length t.store) (length t.indicators)
+module _ (g : Geometry) (t : Tables) (c : Call (List ℕ)) where
+  pub call-stops : {w : Refusal} → Err w ≡ checked_tables g (length t.store) (length t.indicators) → first_refusal (refusals g t c) ≡ some (number_of w)
+  unfolding refusals bad_lengths
+  call-stops = tables-stop g (length t.store) (length t.indicators) (bad_matches g c) (own_refusals g t c) refl
 
--- a call with no match word
-pub tables-decide : (g : Geometry) (t : Tables) (c : Call (List ℕ)) → bad_matches g c ≡ false
-    → {x : Checked} → x ≡ checked_tables g (length t.store) (length t.indicators) → Decides (refusals g t c) x (own_refusals g t c) (LentAs g t)
-unfolding refusals bad_lengths
-tables-decide g t c plain is = tables-row g _ _ (rw plain (sym (or-false _))) is (geometry-row g _)
+  -- where row 2 has still to look at a match word, if the call has one
+  pub call-reaches : {s : Sizes} → Ok s ≡ checked_tables g (length t.store) (length t.indicators)
+      → Reaches (refusals g t c) (2 given-when bad_matches g c ∷ own_refusals g t c)
+  unfolding refusals bad_lengths
+  call-reaches = tables-pass g (length t.store) (length t.indicators) (bad_matches g c) (own_refusals g t c) refl
 
--- all-match, where row 2 is tested in two parts
-pub matches-decide : (g : Geometry) (t : Tables) (key : ℕ) (m : List ℕ)
-    → {x : Checked} → x ≡ checked_matches g (length t.store) (length t.indicators) (length m)
-    → Decides (refusals g t (all_match key m)) x (own_refusals g t (all_match key m)) (λ z. LentAs g t z × (length m ≡ match_words g))
-unfolding refusals bad_lengths bad_matches
-matches-decide g t key m is = matches-row g _ _ _ is (tables-row g _ _ refl refl (row-twice 2 _ _ (geometry-row g _)))
+  pub plain-reaches : bad_matches g c ≡ false → {s : Sizes} → Ok s ≡ checked_tables g (length t.store) (length t.indicators)
+      → Reaches (refusals g t c) (own_refusals g t c)
+  plain-reaches plain e = row-idle 2 (rw plain at (call-reaches e))
 
--- rows 3 and 4, after others; y is what the code has after its test
-module _ {table rest : List RefusalRow} {x y : Checked} {Shown : Sizes → Type 0} (g : Geometry) where
-  pub address-decides : (a : ℕ) {outside : Bool} → outside ≡ leb g.depth a → y ≡ and_row x BadAddress (λ z. outside)
-      → Decides table x (3 given-when bad_address g a ∷ rest) Shown → Decides table y rest (λ z. Shown z × (bad_address g a ≡ false))
+-- What the layout of a check that passed tells of the tables.
+pub call-lent : (g : Geometry) (t : Tables) (l : Layout) → Ok l.sizes ≡ checked_tables g (length t.store) (length t.indicators) → l.geometry ≡ g
+    → Lent g l.sizes (length t.store) (length t.indicators)
+call-lent g t l given own = rw own at (tables-lent g _ _ l given own)
+
+-- Row 3, where it comes next; r is what the code's test found.
+module _ {table rest : List RefusalRow} (g : Geometry) (a : ℕ) (reached : Reaches table (3 given-when bad_address g a ∷ rest)) {r : Bool} (found : r ≡ leb g.depth a) where
+  pub address-stops : {w : Refusal} → Err w ≡ refused_if BadAddress r → first_refusal table ≡ some (number_of w)
   unfolding bad_address
-  address-decides a = row-tested BadAddress
+  address-stops e = row-stops BadAddress reached (rw found at e)
 
-  pub pattern-decides : (p : ℕ) → ((z : Sizes) → Shown z → Sized g z) → y ≡ and_pattern x p → Decides table x (4 given-when bad_pattern g p ∷ rest) Shown
-      → Decides table y rest (λ z. Shown z × (bad_pattern g p ≡ false))
+  pub address-passes-on : {u : Unit {0}} → Ok u ≡ refused_if BadAddress r → Reaches table rest × (a < g.depth)
+  unfolding bad_address
+  address-passes-on e = let p = row-passes BadAddress reached (rw found at e) in (p.0, leb-false g.depth a p.1)
+
+-- Row 4, where it comes next, by the layout that the code has.
+module _ {table rest : List RefusalRow} (g : Geometry) (p : ℕ) (reached : Reaches table (4 given-when bad_pattern g p ∷ rest)) (l : Layout) (own : l.geometry ≡ g) where
+  limit : l.sizes.patterns ≡ patterns g
+  limit = rw own at l.sized.same-patterns
+
+  pub pattern-stops : {w : Refusal} → Err w ≡ refused_if BadPattern (leb l.sizes.patterns p) → first_refusal table ≡ some (number_of w)
   unfolding bad_pattern
-  pattern-decides p = pattern-row g p
+  pattern-stops e = row-stops BadPattern reached (rw limit at e)
+
+  pub pattern-passes : {u : Unit {0}} → Ok u ≡ refused_if BadPattern (leb l.sizes.patterns p) → Reaches table rest
+  unfolding bad_pattern
+  pattern-passes e = (row-passes BadPattern reached (rw limit at e)).0

@@ -14,7 +14,9 @@ use Rattle.reference.specs.Steps.{Outcome, refusals, accepted, outcome, step}
 use Rattle.reference.proofs.Refused.{matches-after}
 use Rattle.calls.specs.declared.Call.{Call}
 use Rattle.calls.specs.declared.Answer.{Answer}
-use Rattle.calls.specs.declared.Answer.TheVariants.{Refused, Cleared, Held, At, None, Matched}
+use Rattle.calls.specs.declared.Answer.TheVariants.{Cleared, Held, Searched, Matched}
+use Rattle.checks.specs.declared.Refusal.{Refusal}
+use Rattle.std.specs.Prelude.{Result, Ok, Err}
 use Rattle.calls.specs.Answers.{call_for, answer_for, tables, left, Performed}
 
 abbrev is_matched : calls.Answer → Bool
@@ -54,13 +56,12 @@ bare-unmatched g t c b = go c b (first_refusal (refusals g t c))
     go (all_match key m) b none = absurd b
 
 -- such an answer has no use for a match word, and leaves it
-answer-any : (r : Answer) (m : List ℕ) → is_matched (answer_for r []) ≡ false → answer_for r m ≡ answer_for r []
-answer-any (Matched n) m e = absurd (true≢false e)
-answer-any (Refused why) m e = refl
-answer-any Cleared m e = refl
-answer-any (Held x) m e = refl
-answer-any (At a w n) m e = refl
-answer-any (None w n) m e = refl
+answer-any : (r : Result Answer Refusal) (m : List ℕ) → is_matched (answer_for r []) ≡ false → answer_for r m ≡ answer_for r []
+answer-any (Err why) m e = refl
+answer-any (Ok (Matched n)) m e = absurd (true≢false e)
+answer-any (Ok Cleared) m e = refl
+answer-any (Ok (Held x)) m e = refl
+answer-any (Ok (Searched x)) m e = refl
 
 kept_any : (x : calls.Answer) (m : List ℕ) → is_matched x ≡ false → m ≡ matches_after x m
 unfolding matches_after
@@ -72,7 +73,7 @@ kept_any (at a w n) m e = refl
 kept_any (calls.none w n) m e = refl
 
 -- `known` is the call, by its case.
-module _ (g : Geometry) (call known : Call) (is : call ≡ known) (r : Answer) (t : Tables) (s i m : List ℕ) where
+module _ (g : Geometry) (call known : Call) (is : call ≡ known) (r : Result Answer Refusal) (t : Tables) (s i m : List ℕ) where
   pub bare-performed : Bare (call_for known m) → left r s i [] ≡ step g t (call_for known m) → Performed g call r t (tables s i) m m
   bare-performed b e =
       let same : answer_for r [] ≡ (step g t (call_for known m)).answer = ap (λ (o : Outcome). o.answer) e in

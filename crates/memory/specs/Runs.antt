@@ -1,6 +1,6 @@
 -- Histories of the code (docs/MEMORY.md, section 10): calls that were made one after the other, each on the tables that the last
 -- one left.
-use Rattle.std.specs.Prelude.{ℕ, ◌≡◌, ◌↔◌, List, map}
+use Rattle.std.specs.Prelude.{ℕ, ◌≡◌, ◌↔◌, List, map, Result}
 use Rattle.machines.specs.Chain as chain
 use Rattle.geometry.specs.declared.Geometry.{Geometry}
 use Rattle.reference.specs.Calls.{Call, clear, Answer, refused, cleared, shape, lent, matches_after}
@@ -11,6 +11,7 @@ use Rattle.reference.specs.Steps.{step}
 use Rattle.reference.specs.History.{array_answers, array_after}
 use Rattle.reference.specs.Statements.{Begun, Later}
 use Rattle.calls.specs.declared.Call as code
+use Rattle.checks.specs.declared.Refusal.{Refusal}
 use Rattle.calls.specs.declared.Answer as code-answer
 use Rattle.calls.specs.Answers.{call_for, answer_for, tables, left, Performed}
 
@@ -25,9 +26,9 @@ pub record Run : Type 0 where
 -- A run on the tables t. What is known of it is what the function that was called ensures: one of the six calls, or `perform`,
 -- which is lent a match word with every call.
 pub data Made (g : Geometry) (t : Tables) : Run → Type 0 where
-  by_call : (c : Call (List ℕ)) (r : code-answer.Answer) (s i m : List ℕ) → left r s i m ≡ step g t c
+  by_call : (c : Call (List ℕ)) (r : Result code-answer.Answer Refusal) (s i m : List ℕ) → left r s i m ≡ step g t c
       → Made g t (record { call = c; lent = lent c; answer = answer_for r m; tables = tables s i; matches = m })
-  by-perform : (call : code.Call) (r : code-answer.Answer) (after : Tables) (m m' : List ℕ) → Performed g call r t after m m'
+  by-perform : (call : code.Call) (r : Result code-answer.Answer Refusal) (after : Tables) (m m' : List ℕ) → Performed g call r t after m m'
       → Made g t (record { call = call_for call m; lent = m; answer = answer_for r m'; tables = after; matches = m' })
 
 -- Runs one after the other, from the tables t, where Link is what is known of each.

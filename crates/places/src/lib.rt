@@ -1,27 +1,33 @@
 // Addresses, sets, offsets in a set and words of a row: the one rule between them (rule 2.5 of docs/MEMORY.md), and where each
-// stands in the lent tables (section 3 there). Only this file makes them or takes them apart. Sets and offsets hand out no
+// stands in the lent tables (section 3 there). Only this crate makes them or takes them apart. Sets and offsets hand out no
 // number, so that anywhere else one cannot be taken for another, added to it or compared with it. An address takes a caller's
 // number and hands out its own for an answer (`Address::new`, `number`), a set takes a caller's number for the line
 // (`SetIndex::from_caller`), and a set's length hands out its own for a count (`SetLength::entries`); tests/types_apart says
-// which files may use these. What no type tells apart are the words of a row and those of a match word.
+// which files may use these, so that they are no `From`, which a plain `into` would call. What no type tells apart are the words of a
+// row and those of a match word.
+// Numbers become `usize` by `as`: there is no `From` for it, and `TryFrom` would have a failure that cannot be.
 #![tactic(auto)]
 
-ghost use Rattle.std.specs.Prelude.{◌+◌, ◌*◌, ◌/◌, ◌%◌, ◌<◌, ◌≡◌, true, eqb, leb, ltb, length, get_or, set};
+mod walk;
+
+ghost use Rattle.std.specs.Prelude.{◌+◌, ◌*◌, ◌/◌, ◌%◌, ◌<◌, ◌≡◌, leb, length, get_or, set};
 ghost use Rattle.std.specs.Int.Count.{count_trailing_zeros};
-ghost use Rattle.words.specs.Bits.{bit, set_bit, clear_bit, change_bit, row_mask};
-ghost use Rattle.geometry.specs.Valid.{valid};
+ghost use Rattle.words.specs.Bits.{bit, set_bit, put_bit, change_bit, row_mask};
 ghost use Rattle.geometry.specs.Sizes.{sets, set_of, offset_of, address_of, set_length};
 ghost use Rattle.reference.specs.Entry.{empty_word};
 ghost use Rattle.places.specs.Lines.{IsLine};
 
 use geometry::Geometry;
-use sizes::Sizes;
+use sizes::{Layout, Sizes};
+use walk::Place;
+pub use walk::{Sets, Walk};
 
 // An address, as it comes from a caller or from the rule.
-#[derive(Clone, Copy)]
+#[derive(Clone, Copy, Debug, PartialEq, Eq)]
 pub struct Address(u32);
 
-// The number of a set.
+// The number of a set. That it is one of a geometry's sets is asked where it matters, of this type as of the others here: the number alone
+// does not tell, and with the layout in it each would be asked instead whether its layout is that of the tables.
 #[derive(Clone, Copy)]
 pub struct SetIndex(u32);
 
@@ -29,13 +35,37 @@ pub struct SetIndex(u32);
 #[derive(Clone, Copy)]
 pub struct Offset(u32);
 
-// How many addresses a set has. Only a set gives it, only an offset is tested against it, and only a count is made of it.
+// How many addresses a set has. Only a set gives it, and only its offsets and a count are made of it.
 #[derive(Clone, Copy)]
 pub struct SetLength(u16);
 
-// Which word of a row: it steps on from the first.
+// Which word of a row.
 #[derive(Clone, Copy)]
 pub struct RowWord(usize);
+
+impl Place for Address {
+    ghost number = { λ address. address.0 };
+
+    fn at(n: u32) -> Self {
+        Address(n)
+    }
+}
+
+impl Place for Offset {
+    ghost number = { λ offset. offset.0 };
+
+    fn at(n: u32) -> Self {
+        Offset(n)
+    }
+}
+
+impl Place for RowWord {
+    ghost number = { λ word. word.0 };
+
+    fn at(n: u32) -> Self {
+        RowWord(n as usize)
+    }
+}
 
 impl Address {
     // The address of a number that a caller has.
@@ -45,19 +75,11 @@ impl Address {
         Address(number)
     }
 
-    // The first of all addresses, and the next one: a walk over the whole store. It shows what is asked: it steps on from an
-    // address of the geometry, and there are 4,096 at most.
-    pub fn first() -> Self
-        ensures { result.0 ≡ 0 }
+    // All addresses, in their order.
+    pub fn all(layout: Layout) -> Walk<Address>
+        ensures { (result.next ≡ 0) × (result.end ≡ layout.geometry.depth) }
     {
-        Address(0)
-    }
-
-    pub fn next(self) -> Self
-        requires { self.0 < 4096 }
-        ensures { result.0 ≡ self.0 + 1 }
-    {
-        Address(self.0 + 1)
+        Walk::to(layout.geometry.depth)
     }
 
     // Its number, for an answer.
@@ -74,26 +96,18 @@ impl Address {
         g.depth <= self.0
     }
 
-    pub fn is(self, other: Address) -> bool
-        ensures { result ≡ eqb self.0 other.0 }
+    // The set that it lies in.
+    pub fn set(self, layout: Layout) -> SetIndex
+        ensures { result.0 ≡ set_of layout.geometry self.0 }
     {
-        self.0 == other.0
+        SetIndex(self.0 / layout.geometry.set_width)
     }
 
-    // The set that it lies in. The check of the call shows that the geometry is valid.
-    pub fn set(self, g: Geometry) -> SetIndex
-        requires { valid g ≡ true }
-        ensures { result.0 ≡ set_of g self.0 }
+    // Where it lies in its set.
+    pub fn offset(self, layout: Layout) -> Offset
+        ensures { result.0 ≡ offset_of layout.geometry self.0 }
     {
-        SetIndex(self.0 / g.set_width)
-    }
-
-    // Where it lies in its set. The check of the call shows that the geometry is valid.
-    pub fn offset(self, g: Geometry) -> Offset
-        requires { valid g ≡ true }
-        ensures { result.0 ≡ offset_of g self.0 }
-    {
-        Offset(self.0 % g.set_width)
+        Offset(self.0 % layout.geometry.set_width)
     }
 }
 
@@ -122,7 +136,7 @@ impl Address {
         requires { self.0 / 64 < length matches.old }
         ensures { matches.new ≡ change_bit set_bit matches.old (self.0 / 64) (self.0 % 64) }
     {
-        words::set_bit(matches, (self.0 / 64) as usize, self.0 % 64);
+        words::put_bit(matches, (self.0 / 64) as usize, self.0 % 64, true);
     }
 }
 
@@ -147,46 +161,36 @@ impl SetIndex {
         requires { at.0 < 64 }
         ensures { result.0 ≡ 64 * at.0 + count_trailing_zeros 64 word }
     {
-        SetIndex(64 * at.0 as u32 + words::lowest_bit(word))
+        SetIndex(64 * at.0 as u32 + word.trailing_zeros())
     }
 
-    // How many addresses it has. That it is a set of a valid geometry is shown as for `address`.
-    pub fn length(self, g: Geometry) -> SetLength
-        requires { (valid g ≡ true) × (self.0 < sets g) }
-        ensures { result.0 ≡ set_length g self.0 }
+    // How many addresses it has. That it is a set of the geometry is shown as for `address`.
+    pub fn length(self, layout: Layout) -> SetLength
+        requires { self.0 < sets layout.geometry }
+        ensures { result.0 ≡ set_length layout.geometry self.0 }
     {
-        SetLength(g.set_width as u16)
+        SetLength(layout.geometry.set_width as u16)
     }
 
-    // Its address at an offset. The check of the call shows that the geometry is valid. The loops over a set show the rest:
-    // padding is dropped, so that the set is one, and they stay within its length.
-    pub fn address(self, at: Offset, g: Geometry) -> Address
-        requires { (valid g ≡ true) × (self.0 < sets g) × (at.0 < set_length g self.0) }
-        ensures { result.0 ≡ address_of g self.0 at.0 }
+    // Its address at an offset. Who asks shows that it is a set: padding is dropped. The offsets are those of its length.
+    pub fn address(self, at: Offset, layout: Layout) -> Address
+        requires { (self.0 < sets layout.geometry) × (at.0 < set_length layout.geometry self.0) }
+        ensures { result.0 ≡ address_of layout.geometry self.0 at.0 }
     {
-        Address(g.set_width * self.0 + at.0)
+        Address(layout.geometry.set_width * self.0 + at.0)
     }
 }
 
 // A set in the tables. That a row's word of the set is one of the indicators follows from their length, which the check of the
 // call has tested.
 impl SetIndex {
-    // Its bit of a row becomes 1.
-    pub fn set_bit(self, indicators: &mut [u64], row: usize, sizes: Sizes)
+    // Its bit of a row becomes `value`.
+    pub fn put_bit(self, indicators: &mut [u64], row: usize, sizes: Sizes, value: bool)
         requires { sizes.row_words * row + self.0 / 64 < length indicators.old }
-        ensures { indicators.new ≡ change_bit set_bit indicators.old (sizes.row_words * row + self.0 / 64) (self.0 % 64) }
+        ensures { indicators.new ≡ change_bit (put_bit value) indicators.old (sizes.row_words * row + self.0 / 64) (self.0 % 64) }
     {
         let at = sizes.row_words * row + (self.0 / 64) as usize;
-        words::set_bit(indicators, at, self.0 % 64);
-    }
-
-    // Its bit of a row becomes 0.
-    pub fn clear_bit(self, indicators: &mut [u64], row: usize, sizes: Sizes)
-        requires { sizes.row_words * row + self.0 / 64 < length indicators.old }
-        ensures { indicators.new ≡ change_bit clear_bit indicators.old (sizes.row_words * row + self.0 / 64) (self.0 % 64) }
-    {
-        let at = sizes.row_words * row + (self.0 / 64) as usize;
-        words::clear_bit(indicators, at, self.0 % 64);
+        words::put_bit(indicators, at, self.0 % 64, value);
     }
 
     // Whether its bit of a row is 1.
@@ -198,20 +202,13 @@ impl SetIndex {
         words::has_bit(indicators[at], self.0 % 64)
     }
 
-    // A word of a row without its bit.
-    pub fn without(self, word: u64) -> u64
-        ensures { result ≡ clear_bit word (self.0 % 64) }
-    {
-        words::without_bit(word, self.0 % 64)
-    }
-
     // Its line (rule 11.1): that part of the store itself. `memory::line` tests what is asked.
-    pub fn line(self, store: &[u32], g: Geometry) -> &[u32]
-        requires { (valid g ≡ true) × (length store.now ≡ g.depth) × (self.0 < sets g) }
-        ensures { IsLine g store.entry result self.0 }
+    pub fn line(self, store: &[u32], layout: Layout) -> &[u32]
+        requires { (length store.now ≡ layout.geometry.depth) × (self.0 < sets layout.geometry) }
+        ensures { IsLine layout.geometry store.entry result self.0 }
     {
-        let from = self.address(Offset::first(), g).0 as usize;
-        let to = from + self.length(g).0 as usize;
+        let from = self.address(Offset::first(), layout).0 as usize;
+        let to = from + self.length(layout).0 as usize;
         &store[from..to]
     }
 }
@@ -223,52 +220,30 @@ impl SetLength {
     {
         self.0
     }
+
+    // The offsets in the set, in their order.
+    pub fn offsets(self) -> Walk<Offset>
+        ensures { (result.next ≡ 0) × (result.end ≡ self.0) }
+    {
+        Walk::to(self.0 as u32)
+    }
 }
 
 impl Offset {
+    // That of a set's first address.
     pub fn first() -> Self
         ensures { result.0 ≡ 0 }
     {
         Offset(0)
     }
-
-    // The next in the set. The loops over a set show what is asked: they step on from an offset within its length, which is
-    // 64 at most.
-    pub fn next(self) -> Self
-        requires { self.0 < 64 }
-        ensures { result.0 ≡ self.0 + 1 }
-    {
-        Offset(self.0 + 1)
-    }
-
-    // Whether a set of that length has the offset.
-    pub fn is_within(self, length: SetLength) -> bool
-        ensures { result ≡ ltb self.0 length.0 }
-    {
-        self.0 < length.0 as u32
-    }
 }
 
 impl RowWord {
-    pub fn first() -> Self
-        ensures { result.0 ≡ 0 }
+    // The words of a row, in their order.
+    pub fn all(layout: Layout) -> Walk<RowWord>
+        ensures { (result.next ≡ 0) × (result.end ≡ layout.sizes.row_words) }
     {
-        RowWord(0)
-    }
-
-    // The next word of the row. The loops over row words show what is asked: a row has 64 words at most.
-    pub fn next(self) -> Self
-        requires { self.0 < 64 }
-        ensures { result.0 ≡ self.0 + 1 }
-    {
-        RowWord(self.0 + 1)
-    }
-
-    // Whether a row has that word.
-    pub fn is_within(self, sizes: Sizes) -> bool
-        ensures { result ≡ ltb self.0 sizes.row_words }
-    {
-        self.0 < sizes.row_words
+        Walk::to(layout.sizes.row_words as u32)
     }
 
     // The bits of that word that belong to sets. The others are padding.
@@ -284,5 +259,13 @@ impl RowWord {
         ensures { result ≡ get_or indicators.now (sizes.row_words * row + self.0) 0 }
     {
         indicators[sizes.row_words * row + self.0]
+    }
+
+    // The sets whose bits `word`, which is that word of a row, has. What is asked is shown as for `SetIndex::lowest`.
+    pub fn sets(self, word: u64) -> Sets
+        requires { self.0 < 64 }
+        ensures { (result.rest ≡ word) × (result.at.0 ≡ self.0) }
+    {
+        Sets::of(word, self)
     }
 }

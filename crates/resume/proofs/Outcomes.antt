@@ -1,47 +1,57 @@
--- The ways a resume ends, as its step: refused by the rows of its check, by row 10, or accepted.
+-- The ways a resume ends, as its step: refused by rows 1 and 2, which its check tests, or row 10 decides.
 use Prim.Native.Nat.{ℕ}
-use mathlib.Core.Path.{◌≡◌, refl, sym, ap, ◌∙◌}
-use mathlib.Core.Bool.{true, false}
+use mathlib.Core.Path.{◌≡◌, sym, ap, ◌∙◌}
+use mathlib.Core.Bool.{Bool, true, false, not, ◌||◌, or-false}
 use mathlib.Core.List.{List, [], ◌∷◌}
 use mathlib.Core.Option.{Option}
 use lib.ListN.{length}
+use Rattle.std.specs.Prelude.{Result, Ok, Err}
+use Rattle.std.specs.Borrow.{Bor}
 use Rattle.machines.specs.Refusals.{◌given-when◌, first_refusal}
 use Rattle.geometry.specs.declared.Geometry.{Geometry}
+use Rattle.geometry.specs.Stages.{tables_fit}
+use Rattle.reference.specs.Tables.{Tables}
 use Rattle.reference.specs.Steps.{bad_lengths}
 use Rattle.reference.specs.Resume.{bad_tables, resume_refusals, Resumption, resume_step}
 use Rattle.sizes.specs.declared.Sizes.{Sizes}
 use Rattle.checks.specs.declared.Refusal.{Refusal}
 use Rattle.checks.specs.declared.Refusal.TheVariants.{BadTables}
-use Rattle.checks.specs.declared.Checked.{Checked}
-use Rattle.checks.specs.declared.Checked.TheVariants as check
-use Rattle.checks.specs.Checks.{checked_tables}
-use Rattle.checks.specs.Passed.{Lent}
-use Rattle.checks.proofs.Rows.{Decides, geometry-row, tables-row}
-use Rattle.calls.specs.Answers.{tables}
-use Rattle.resume.specs.declared.Resumed.TheVariants.{Accepted, Refused}
+use Rattle.checks.specs.declared.lent.Tables as lent-tables
+use Rattle.checks.specs.Checks.{refused_if, checked_tables}
+use Rattle.checks.proofs.Rows.{Reaches, tables-stop, tables-pass, row-idle}
+use Rattle.calls.specs.Answers.{tables, tables_in}
 use Rattle.resume.specs.Resumed.{gone}
 
--- x is what the check of rows 1 and 2 gave
-module _ (g : Geometry) (s i : List ℕ) {x : Checked} (is : x ≡ checked_tables g (length s) (length i)) where
-  decided : Decides (resume_refusals g (tables s i)) x (10 given-when bad_tables g (tables s i) ∷ []) (λ z. Lent g z (length s) (length i))
-  unfolding resume_refusals bad_lengths
-  decided = tables-row g (length s) (length i) refl is (geometry-row g _)
+-- the tables that are lent
+module _ (g : Geometry) (store indicators : Bor (List ℕ)) where
+  abbrev given : Tables
+  given = tables store.now indicators.now
+
+  abbrev check : Result Sizes Refusal
+  check = checked_tables g (length store.now) (length indicators.now)
 
   abbrev leaves : Option ℕ → Resumption
-  leaves n = record { refusal = n; tables = tables s i }
+  leaves n = record { refusal = n; tables = given }
 
-  pub refused-gone : {why : Refusal} → x ≡ check.Refused why → gone (Refused why) s i ≡ resume_step g (tables s i)
-  unfolding resume_step
-  refused-gone e = ap leaves (sym (decided.stops _ e))
+  rows : (not (tables_fit g (length store.now) (length indicators.now)) || false) ≡ bad_lengths g given
+  unfolding bad_lengths
+  rows = or-false _
 
-  module _ {z : Sizes} (e : x ≡ check.Accepted z) where
-    pub lent-shown : Lent g z (length s) (length i)
-    lent-shown = decided.shown z e
+  pub refused-gone : {why : Refusal} → Err why ≡ check → gone (Err why) store.now indicators.now ≡ resume_step g given
+  unfolding resume_step resume_refusals
+  refused-gone e = ap leaves (sym (tables-stop g (length store.now) (length indicators.now) false (10 given-when bad_tables g given ∷ []) rows e))
 
-    pub bad-gone : bad_tables g (tables s i) ≡ true → gone (Refused BadTables) s i ≡ resume_step g (tables s i)
-    unfolding resume_step first_refusal
-    bad-gone b = ap leaves (sym (decided.passes z e ∙ rw b))
+  -- row 10 comes next
+  reached : {z : Sizes} → Ok z ≡ check → Reaches (resume_refusals g given) (10 given-when bad_tables g given ∷ [])
+  unfolding resume_refusals
+  reached e = row-idle 2 (tables-pass g (length store.now) (length indicators.now) false (10 given-when bad_tables g given ∷ []) rows e)
 
-    pub accepted-gone : bad_tables g (tables s i) ≡ false → gone Accepted s i ≡ resume_step g (tables s i)
-    unfolding resume_step first_refusal
-    accepted-gone b = ap leaves (sym (decided.passes z e ∙ rw b))
+  -- t are the tables that the code has, and b is what both looks found of them
+  pub passed-gone : (t : lent-tables.Tables) {b : Bool} → Ok t.layout.sizes ≡ check → t.layout.geometry ≡ g → (t.store ≡ store) × (t.indicators ≡ indicators)
+      → b ≡ bad_tables t.layout.geometry (tables_in t) → gone (refused_if BadTables b) store.now indicators.now ≡ resume_step g given
+  unfolding resume_step first_refusal
+  passed-gone t {b} e own lends found = go b (sym ((reached e).same ∙ rw (found, own, lends.0, lends.1)))
+    where
+      go : (b : Bool) → first_refusal (10 given-when b ∷ []) ≡ first_refusal (resume_refusals g given) → gone (refused_if BadTables b) store.now indicators.now ≡ resume_step g given
+      go true h = ap leaves h
+      go false h = ap leaves h

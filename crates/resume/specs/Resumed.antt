@@ -1,16 +1,15 @@
 -- What the code's answer to a resume stands for, with the number of its refusal (docs/MEMORY.md, rule 9.3).
-use Rattle.std.specs.Prelude.{ℕ, List}
+use Rattle.std.specs.Prelude.{ℕ, List, Result, Ok, Err}
 use Rattle.std.proofs.Math.Option.{Option, none, some}
 use Rattle.reference.specs.Resume.{Resumption}
+use Rattle.checks.specs.declared.Refusal.{Refusal}
 use Rattle.checks.specs.Checks.{number_of}
 use Rattle.calls.specs.Answers.{tables}
-use Rattle.resume.specs.declared.Resumed.{Resumed}
-use Rattle.resume.specs.declared.Resumed.TheVariants.{Accepted, Refused}
 
-abbrev pub refusal_for : Resumed → Option ℕ
-refusal_for Accepted = none
-refusal_for (Refused why) = some (number_of why)
+abbrev pub refusal_for : Result (Unit {0}) Refusal → Option ℕ
+refusal_for (Ok accepted) = none
+refusal_for (Err why) = some (number_of why)
 
 -- What a resume leaves that gives this answer and leaves these tables.
-abbrev pub gone : Resumed → (store indicators : List ℕ) → Resumption
+abbrev pub gone : Result (Unit {0}) Refusal → (store indicators : List ℕ) → Resumption
 gone r s i = record { refusal = refusal_for r; tables = tables s i }

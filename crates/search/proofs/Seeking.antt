@@ -1,68 +1,62 @@
 -- The searches as the code makes them: the rows of a key joined one by one, the bits of a joined word, and first-match's two
 -- searches, a turn and each end of them.
-use Prim.Native.Nat.{ℕ, ◌+◌, ◌-◌, ◌*◌, ◌/◌, ◌%◌, ◌<◌, ◌≤◌}
-use mathlib.Core.Path.{◌≡◌, refl, sym, ◌∙◌}
-use mathlib.Core.Bool.{Bool, true, false, not, ◌&&◌, and_comm, false≢true}
-use mathlib.Core.List.{List, [], ◌∷◌, foldr}
+use Rattle.std.proofs.Common.{ℕ, zero, suc, ◌+◌, ◌-◌, ◌*◌, ◌/◌, ◌%◌, ◌<◌, ◌≤◌, ◌≡◌, refl, sym, ap, ◌∙◌, Bool, true, false, List, [], ◌∷◌, length, get_or, drop, eqb, ltb, arith}
+use mathlib.Core.Bool.{not, false≢true}
+use mathlib.Core.List.{foldr, map}
 use native.Mathlib.Nat.{sub-zero}
-use native.Mathlib.Omega.{arith}
-use lib.Dec.{eqb, ltb}
 use lib.Bits.{bit_and}
 use lib.Count.{count_trailing_zeros}
-use lib.ListN.{length, get_or, drop}
-use borrow.Author.Count.{below_more}
 use borrow.Author.Tests.{ltb-true, ltb-false, eq-eqb, ne_eqb}
+use Rattle.std.specs.List.{range_with_len, fold}
+use Rattle.std.proofs.lemmas.Nat.{and_comm, and_assoc}
 use Rattle.words.specs.Rules.{First, Nowhere}
-use Rattle.words.specs.Bits.{bit, row_mask}
-use Rattle.words.specs.Seek.{Sought, found, seek}
+use Rattle.words.specs.Bits.{row_mask}
+use Rattle.words.specs.Seek.{Sought, seek}
 use Rattle.words.proofs.Rules.{lowest-first, lowest-nowhere}
 use Rattle.words.proofs.Seek.{seek-on, seek-here, seek-over}
-use Rattle.words.proofs.Bits.{bits-equal, bit-out, bit-and, trailing-lowest}
+use Rattle.words.proofs.Bits.{bit-out, trailing-lowest}
 use Rattle.geometry.specs.declared.Geometry.{Geometry}
+use Rattle.geometry.specs.declared.Kind.{Kind}
+use Rattle.geometry.specs.declared.Kind.TheVariants.{Transposed, Cascaded, Segmented}
+use Rattle.geometry.specs.Kinds.{number_of}
 use Rattle.geometry.specs.Valid.{valid, segmented}
 use Rattle.geometry.specs.Sizes.{sets, row_words, address_of, set_length}
 use Rattle.geometry.specs.Stages.{stages, row_of, rows_of}
 use Rattle.geometry.proofs.Facts.{facts}
-use Rattle.geometry.proofs.Places.{address-lt, alone-address}
+use Rattle.geometry.proofs.Places.{alone-address}
 use Rattle.geometry.proofs.Stages.{rows_drop, rows-over}
-use Rattle.geometry.proofs.Bounds.{words-few}
+use Rattle.sizes.specs.declared.layout.Layout.{Layout}
 use Rattle.reference.specs.Tables.{Tables, stored_word}
-use Rattle.reference.specs.Search.{joined, indicated, seek_word, seek_entry, lowest_set, hit, nothing, false_set, in_set, first_found}
+use Rattle.reference.specs.Calls.{refused, at, none}
+use Rattle.reference.specs.Search.{joined, indicated, seek_word, seek_entry, lowest_set, in_set, first_found, answer_of}
 use Rattle.reference.proofs.Line.{line-length}
 use Rattle.reference.proofs.Searched.{indicated-means, joined-lt, equal_at}
-use Rattle.search.specs.declared.Stop.{Stop}
-use Rattle.search.specs.declared.Stop.TheVariants.{Word, Entry, FalseSet}
-use Rattle.calls.specs.Answers.{tables}
 use Rattle.search.specs.Rows.{InSets}
 
 -- ---- the joined word
 
-and-between : (x y w : ℕ) → bit_and x (bit_and y w) ≡ bit_and y (bit_and x w)
-and-between x y w = bits-equal _ _ (λ i. simp bit-and (swap (bit x i) (bit y i) (bit w i)))
-  where
-    swap : (a b c : Bool) → (a && (b && c)) ≡ (b && (a && c))
-    swap true b c = refl
-    swap false b c = sym (and_comm b false)
+module _ (g : Geometry) (t : Tables) (key j : ℕ) where
+  -- word j of row r
+  abbrev pub read : (r : ℕ) → ℕ
+  read r = get_or t.indicators (row_words g * r + j) 0
 
-module _ (g : Geometry) (ind : List ℕ) (j : ℕ) where
-  -- word j of some rows, joined to w
-  abbrev pub join_rows : (w : ℕ) (rows : List ℕ) → ℕ
-  join_rows w rs = foldr (λ r v. bit_and (get_or ind (row_words g * r + j) 0) v) w rs
+  abbrev join : (w : ℕ) (rows : List ℕ) → ℕ
+  join w rs = foldr (λ r v. bit_and (read r) v) w rs
 
-  and-joined : (x w : ℕ) (rs : List ℕ) → join_rows (bit_and x w) rs ≡ bit_and x (join_rows w rs)
-  and-joined x w [] = refl
-  and-joined x w (r ∷ rs) = rw (and-joined x w rs) (and-between (get_or ind (row_words g * r + j) 0) x (join_rows w rs))
+  and-joined : (w x : ℕ) (rs : List ℕ) → join (bit_and w x) rs ≡ bit_and x (join w rs)
+  and-joined w x [] = and_comm w x
+  and-joined w x (r ∷ rs) =
+      rw (and-joined w x rs)
+      (sym (and_assoc (join w rs) (read r) x) ∙ ap (λ v. bit_and v (join w rs)) (and_comm (read r) x) ∙ and_assoc (join w rs) x (read r))
 
-  pub join-start : (key : ℕ) → join_rows (row_mask (sets g) j) (drop 0 (rows_of g key)) ≡ joined g (tables [] ind) key j
+  joins : (n k w : ℕ) → k + n ≡ stages g → fold bit_and w (map (λ i. read (row_of g key i)) (range_with_len k n)) ≡ join w (drop k (rows_of g key))
+  joins zero k w e = rw (rows-over g key k (omega arith))
+  joins (suc n) k w e = joins n (k + 1) _ (omega arith) ∙ rw (rows_drop g key k (omega arith)) (and-joined w _ _)
+
+  -- the rows of all stages, joined to the mask
+  pub joined-is : fold bit_and (row_mask (sets g) j) (map (λ i. read (row_of g key i)) (range_with_len 0 (stages g))) ≡ joined g t key j
   unfolding joined
-  join-start key = refl
-
-  pub join_step : (key k w : ℕ) → k < stages g
-      → join_rows (bit_and (get_or ind (row_words g * row_of g key k + j) 0) w) (drop (k + 1) (rows_of g key)) ≡ join_rows w (drop k (rows_of g key))
-  join_step key k w h = rw (rows_drop g key k h) (and-joined (get_or ind (row_words g * row_of g key k + j) 0) w (drop (k + 1) (rows_of g key)))
-
-  pub join-end : (key k w : ℕ) → stages g ≤ k → join_rows w (drop k (rows_of g key)) ≡ w
-  join-end key k w h = rw (rows-over g key k h)
+  joined-is = joins (stages g) 0 _ (omega arith)
 
 -- ---- the bits of a joined word
 
@@ -81,95 +75,71 @@ joined-in-sets g t key j b h = go (ltb b 64) refl
 
 -- ---- first-match: its two searches, and what it finds where they stop
 
--- the entry of set s at offset o, which is address n, is read (`collect::is_false` cites this too): it is the key
-module _ (g : Geometry) (t : Tables) (key s o n v : ℕ) (is : n ≡ address_of g s o) (read : v ≡ stored_word t n) where
-  pub entry-equal : v ≡ key → equal_at g t key s o ≡ true
-  entry-equal h = rw (← is, ← read) (eq-eqb v key h)
+-- what the code finds of the kind
+module _ (l : Layout) where
+  pub kind-segmented : l.kind ≡ Segmented → eqb l.geometry.kind segmented ≡ true
+  kind-segmented e = rw (← l.same_kind, e)
 
-  -- or it is passed
-  pub entry-passed : (next : ℕ) → Nowhere o (equal_at g t key s) → (v ≡ key → ⊥) → next ≡ o + 1 → Nowhere next (equal_at g t key s)
-  entry-passed next before h e = rw e (below_more _ o before (rw (← is, ← read) (ne_eqb v key h)))
+  pub kind-other : (l.kind ≡ Segmented → ⊥) → eqb l.geometry.kind segmented ≡ false
+  kind-other ne = rw (← l.same_kind) (go l.kind ne)
+    where
+      go : (k : Kind) → (k ≡ Segmented → ⊥) → eqb (number_of k) segmented ≡ false
+      go Transposed ne = refl
+      go Cascaded ne = refl
+      go Segmented ne = absurd (ne refl)
 
 -- the row words from j on, after some looks
 abbrev pub words_from : Geometry → Tables → (key j looks : ℕ) → Sought
 words_from g t key j l = seek (λ i. not (eqb (joined g t key i) 0)) (row_words g - j) j l
 
--- Row word j is the first that is not 0, and `looks` words were looked at.
-pub record AtWord (g : Geometry) (t : Tables) (key j word looks : ℕ) : Type 0 where
-  pub word_lt : j < 64
-  pub set-lt : 64 * j + count_trailing_zeros 64 word < sets g
-  pub here : seek_word g t key ≡ found j looks
-  pub lowest : 64 * j + count_trailing_zeros 64 word ≡ lowest_set g t key j
-
--- Its lowest bit names set s, so that first-match finds what it finds there.
+-- The lowest bit of the first row word that is not 0 names set s, so that first-match finds what it finds there.
 pub record Named (g : Geometry) (t : Tables) (key s looks : ℕ) : Type 0 where
   pub inside : s < sets g
   pub finds : first_found g t key ≡ in_set g t key s looks
 
 module _ (g : Geometry) (t : Tables) (key : ℕ) where
-  pub words-start : words_from g t key 0 0 ≡ seek_word g t key
+  pub words-start : (j : ℕ) → j ≡ 0 → words_from g t key j 0 ≡ seek_word g t key
   unfolding seek_word
-  words-start = rw sub-zero
+  words-start j e = rw (e, sub-zero)
 
   -- the search has come to row word j
   module _ (j looks : ℕ) (come : words_from g t key j looks ≡ seek_word g t key) where
-    pub words-over : row_words g ≤ j → first_found g t key ≡ nothing looks 0
-    unfolding first_found
-    words-over h = rw (sym come ∙ seek-over _ (row_words g) j looks h, first_found)
+    pub words-over : row_words g ≤ j → none looks 0 ≡ answer_of (first_found g t key)
+    unfolding first_found answer_of
+    words-over h = rw (← come, seek-over _ (row_words g) j looks h, first_found)
 
     -- and it is read
-    module _ (word : ℕ) (inside : j < row_words g) (is : word ≡ joined g (tables [] t.indicators) key j) where
-      same : word ≡ joined g t key j
-      unfolding joined
-      same = is
-
+    module _ (word : ℕ) (inside : j < row_words g) (is : word ≡ joined g t key j) where
       pub words-on : word ≡ 0 → words_from g t key (j + 1) (looks + 1) ≡ seek_word g t key
-      words-on e = seek-on _ (row_words g) j looks inside (rw (← same, eq-eqb word 0 e)) ∙ come
+      words-on e = seek-on _ (row_words g) j looks inside (rw (← is, eq-eqb word 0 e)) ∙ come
 
-      pub at-word : valid g ≡ true → (word ≡ 0 → ⊥) → AtWord g t key j word (looks + 1)
-      unfolding lowest_set
-      at-word ok some =
-          let low = trailing-lowest 64 word (rw same (joined-lt g t key j)) (omega arith) in
-          let of-sets : InSets g word j = rw same (joined-in-sets g t key j) in
-          record {
-            word_lt = omega (arith, words-few g (facts g ok));
-            set-lt = of-sets _ low.here;
-            here = sym come ∙ seek-here _ (row_words g) j looks inside (rw (← same, ne_eqb word 0 some));
-            lowest = rw same;
-          }
-
-pub named : {g : Geometry} {t : Tables} {key j word looks s : ℕ} → AtWord g t key j word looks → s ≡ 64 * j + count_trailing_zeros 64 word → Named g t key s looks
-unfolding first_found
-named a is = rw is (record { inside = a.set-lt; finds = rw (a.here, first_found, a.lowest) })
+      pub named : (word ≡ 0 → ⊥) → {s : ℕ} → s ≡ 64 * j + count_trailing_zeros 64 word → Named g t key s (looks + 1)
+      unfolding first_found lowest_set
+      named some e =
+          let low = trailing-lowest 64 word (rw is (joined-lt g t key j)) (omega arith) in
+          let of-sets : InSets g word j = rw is (joined-in-sets g t key j) in
+          let here = sym come ∙ seek-here _ (row_words g) j looks inside (rw (← is, ne_eqb word 0 some)) in
+          rw e (record { inside = of-sets _ low.here; finds = rw (here, first_found, is) })
 
 module _ {g : Geometry} {t : Tables} {key s looks : ℕ} (a : Named g t key s looks) where
-  -- where a set is an address, that is found
-  pub set_found : valid g ≡ true → eqb g.kind segmented ≡ false → (o n : ℕ) → o < set_length g s → n ≡ address_of g s o → first_found g t key ≡ hit n looks 0
-  unfolding in_set
-  set_found ok k o n inside is = a.finds ∙ rw (is, alone-address g (facts g ok) s o k inside, k, in_set)
+  -- where a set is an address, that is answered
+  pub set_found : valid g ≡ true → eqb g.kind segmented ≡ false → (o n : ℕ) → o < set_length g s → n ≡ address_of g s o
+      → at n looks 0 ≡ answer_of (first_found g t key)
+  unfolding in_set answer_of
+  set_found ok k o n inside is = rw (a.finds, is, alone-address g (facts g ok) s o k inside, k, in_set)
 
-  -- where the comparison of its entries has passed them all, it is false
-  pub entries_over : eqb g.kind segmented ≡ true → (o : ℕ) → set_length g s ≤ o → Nowhere o (equal_at g t key s) → first_found g t key ≡ false_set
-  unfolding in_set seek_entry
-  entries_over k o past before =
-      a.finds ∙ rw (k, in_set, seek_entry, lowest-nowhere (set_length g s) (equal_at g t key s) (λ i l. before i (omega arith)))
+  module _ (k : eqb g.kind segmented ≡ true) (o : ℕ) (before : Nowhere o (equal_at g t key s)) where
+    -- where the comparison of its entries has passed them all, it is false
+    pub entries_over : set_length g s ≤ o → refused 6 ≡ answer_of (first_found g t key)
+    unfolding in_set seek_entry answer_of
+    entries_over past =
+        rw (a.finds, k, in_set, seek_entry, lowest-nowhere (set_length g s) (equal_at g t key s) (λ i l. before i (omega arith)))
 
-  module _ (ok : valid g ≡ true) (long : length t.store ≡ g.depth) (o : ℕ) (inside : o < set_length g s) (n : ℕ) (is : n ≡ address_of g s o) where
-    pub address-inside : n < length t.store
-    address-inside = rw (is, long) (address-lt g (facts g ok) s o a.inside inside)
-
-    -- the first that is equal is the hit, and the whole line is c
-    pub entry_found : eqb g.kind segmented ≡ true → Nowhere o (equal_at g t key s) → equal_at g t key s o ≡ true
-        → (c : ℕ) → c ≡ set_length g s → first_found g t key ≡ hit n looks c
-    unfolding in_set seek_entry
-    entry_found k before equal c whole =
-        let first : First (set_length g s) (equal_at g t key s) o = record { within = inside; here = equal; none_before = before } in
-        a.finds ∙ rw (k, in_set, seek_entry, lowest-first (set_length g s) (equal_at g t key s) o first, is, whole, (line-length g t.store s ok long a.inside).0)
-
--- What is known where the search of the row words has stopped: at a word that is 0, past the last; at another, in a kind whose
--- sets are addresses; at an entry; or at a false set.
-abbrev pub Stopped : Geometry → Tables → (key : ℕ) → Stop → Type 0
-Stopped g t key (Word w j n) =
-    (w ≡ 0 → first_found g t key ≡ nothing n 0) × ((w ≡ 0 → ⊥) → AtWord g t key j.0 w n × (eqb g.kind segmented ≡ false))
-Stopped g t key (Entry a n c) = first_found g t key ≡ hit a.0 n c
-Stopped g t key FalseSet = first_found g t key ≡ false_set
+    -- at the first that is the key that address is answered, and the whole line is c
+    pub entry_found : valid g ≡ true → length t.store ≡ g.depth → o < set_length g s
+        → (n v c : ℕ) → n ≡ address_of g s o → v ≡ stored_word t n → v ≡ key → c ≡ set_length g s → at n looks c ≡ answer_of (first_found g t key)
+    unfolding in_set seek_entry answer_of
+    entry_found ok long within n v c is read equal whole =
+        let here : equal_at g t key s o ≡ true = rw (← is, ← read) (eq-eqb v key equal) in
+        let first : First (set_length g s) (equal_at g t key s) o = record { within = within; here = here; none_before = before } in
+        rw (a.finds, k, in_set, seek_entry, lowest-first (set_length g s) (equal_at g t key s) o first, is, whole, (line-length g t.store s ok long a.inside).0)

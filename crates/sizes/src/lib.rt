@@ -1,19 +1,19 @@
-// Whether four numbers are a geometry, and the sizes that follow from one that is (docs/MEMORY.md, sections 2 to 4).
-//
-// What follows from a valid geometry asks for one: the check of a call tests that before it calls these functions. Where a
-// stage is asked for, `rows` shows that the last is one, and who calls `row`, `stage` or `stage_rows` that its own is.
+// Whether four numbers are a geometry, and what follows from one that is (docs/MEMORY.md, sections 2 to 4).
+// Numbers become `usize` by `as`: there is no `From` for it, and `TryFrom` would have a failure that cannot be.
 #![tactic(auto)]
 
-ghost use Rattle.std.specs.Prelude.{◌^◌, ◌<◌, ◌≡◌, true};
-ghost use Rattle.geometry.specs.Valid.{between, segmented_rule, kind_rule, valid};
-ghost use Rattle.geometry.specs.Sizes.{sets, row_words};
-ghost use Rattle.geometry.specs.Stages.{stages, stage_width, stage, row_of, rows};
+mod layout;
+
+ghost use Rattle.std.specs.Prelude.{◌≡◌, ◌&&◌, cond, eqb, true};
+ghost use Rattle.geometry.specs.Valid.{cascaded, between, segmented_rule, kind_rule, valid};
+ghost use Rattle.geometry.specs.Sizes.{rounded_up};
+ghost use Rattle.geometry.specs.Kinds.{number_of};
 ghost use Rattle.sizes.specs.SizesOf.{sizes_of};
 
-use boxes::StageBox;
-use geometry::{CASCADED, Geometry, SEGMENTED, TRANSPOSED};
+use geometry::{Geometry, Kind};
+pub use layout::Layout;
 
-// What follows from a geometry that passed its check.
+// The sizes of a geometry.
 #[derive(Clone, Copy)]
 pub struct Sizes {
     // The patterns are the numbers below this one.
@@ -32,7 +32,7 @@ pub struct Sizes {
 fn is_between(low: u32, high: u32, n: u32) -> bool
     ensures { result ≡ between low high n }
 {
-    low <= n && n <= high
+    (low..=high).contains(&n)
 }
 
 // The set widths of the segmented kind.
@@ -43,116 +43,50 @@ fn segmented_allows(depth: u32, set: u32) -> bool
 }
 
 // The rule of a kind.
-fn kind_allows(kind: u32, depth: u32, width: u32, set: u32) -> bool
-    ensures { result ≡ kind_rule kind depth width set }
+fn kind_allows(kind: Kind, depth: u32, width: u32, set: u32) -> bool
+    ensures { result ≡ kind_rule (number_of kind) depth width set }
 {
     match kind {
-        TRANSPOSED => is_between(1, 12, width) && set == 1,
-        CASCADED => is_between(1, 27, width) && set == 1,
-        SEGMENTED => is_between(1, 12, width) && segmented_allows(depth, set),
-        _ => false,
+        Kind::Transposed => is_between(1, 12, width) && set == 1,
+        Kind::Cascaded => is_between(1, 27, width) && set == 1,
+        Kind::Segmented => is_between(1, 12, width) && segmented_allows(depth, set),
     }
 }
 
-// Whether the four numbers are a geometry.
-pub fn is_valid(g: Geometry) -> bool
-    ensures { result ≡ valid g }
+// Whether numbers of that kind are a geometry.
+fn allows(kind: Kind, g: Geometry) -> bool
+    ensures { result ≡ (between 1 4096 g.depth && kind_rule (number_of kind) g.depth g.pattern_width g.set_width) }
 {
-    is_between(1, 4096, g.depth) && kind_allows(g.kind, g.depth, g.pattern_width, g.set_width)
+    is_between(1, 4096, g.depth) && kind_allows(kind, g.depth, g.pattern_width, g.set_width)
 }
 
 // Only the cascaded kind cuts a pattern into stages.
-fn stages(g: Geometry) -> u32
-    requires { valid g ≡ true }
-    ensures { result ≡ stages g }
+fn stages(kind: Kind, width: u32) -> u32
+    ensures { result ≡ cond (eqb (number_of kind) cascaded) (rounded_up width 9) 1 }
 {
-    if g.kind == CASCADED {
-        (g.pattern_width + 8) / 9
-    } else {
-        1
+    match kind {
+        Kind::Cascaded => width.div_ceil(9),
+        Kind::Transposed | Kind::Segmented => 1,
     }
 }
 
-// The bits of stage `k`.
-fn stage_width(g: Geometry, k: u32) -> u32
-    requires { (valid g ≡ true) × (k < stages g) }
-    ensures { result ≡ stage_width g k }
-{
-    if k + 1 < stages(g) {
-        9
-    } else {
-        g.pattern_width - 9 * k
-    }
-}
-
-// The rows of stage `k`: its values are the numbers below this one.
-pub fn stage_rows(g: Geometry, k: u32) -> u32
-    requires { (valid g ≡ true) × (k < stages g) }
-    ensures { result ≡ 2 ^ stage_width g k }
-{
-    1 << stage_width(g, k)
-}
-
-// The value of stage `k` of a pattern: the bits that go into its box.
-pub fn stage(g: Geometry, k: u32, pattern: u32) -> u32
-    requires { (valid g ≡ true) × (k < stages g) }
-    ensures { result ≡ stage g k pattern }
-{
-    let width = g.pattern_width;
-    let its_box = boxes::box_of(g, k);
-    match its_box {
-        StageBox::LowNine => pattern % 512,
-        StageBox::MiddleNine => (pattern >> 9) % 512,
-        StageBox::TopNine => (pattern >> 18) % 512,
-        StageBox::NarrowLast => (pattern >> (9 * (width / 9))) % (1 << (width % 9)),
-        StageBox::Whole => pattern % (1 << width),
-    }
-}
-
-// The row of stage `k` of a pattern. The check of the call shows that the geometry is valid, and its loop goes through
-// the stages that the sizes count.
-pub fn row(g: Geometry, pattern: u32, k: u32) -> usize
-    requires { (valid g ≡ true) × (k < stages g) }
-    ensures { result ≡ row_of g pattern k }
-{
-    (512 * k + stage(g, k, pattern)) as usize
-}
-
-// The rows of all stages.
-fn rows(g: Geometry) -> usize
-    requires { valid g ≡ true }
-    ensures { result ≡ rows g }
-{
-    let last = stages(g) - 1;
-    (512 * last + stage_rows(g, last)) as usize
-}
-
-fn sets(g: Geometry) -> usize
-    requires { valid g ≡ true }
-    ensures { result ≡ sets g }
-{
-    (g.depth / g.set_width) as usize
-}
-
-fn row_words(g: Geometry) -> usize
-    requires { valid g ≡ true }
-    ensures { result ≡ row_words g }
-{
-    (sets(g) + 63) / 64
-}
-
-// All sizes.
-pub fn of(g: Geometry) -> Sizes
-    requires { valid g ≡ true }
+// All sizes. `Layout::of` has tested the geometry.
+fn sizes_of(kind: Kind, g: Geometry) -> Sizes
+    requires { (valid g ≡ true) × (number_of kind ≡ g.kind) }
     ensures { result ≡ sizes_of g }
 {
-    let row_words = row_words(g);
+    let stages = stages(kind, g.pattern_width);
+    let last = stages - 1;
+    // Each stage but the last has 512.
+    let rows = 512 * last + (1 << (g.pattern_width - 9 * last));
+    let sets = (g.depth / g.set_width) as usize;
+    let row_words = sets.div_ceil(64);
     Sizes {
         patterns: 1 << g.pattern_width,
-        sets: sets(g),
+        sets,
         row_words,
-        stages: stages(g),
-        indicator_words: row_words * rows(g),
-        match_words: (g.depth as usize + 63) / 64,
+        stages,
+        indicator_words: row_words * rows as usize,
+        match_words: (g.depth as usize).div_ceil(64),
     }
 }

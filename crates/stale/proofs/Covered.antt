@@ -2,7 +2,6 @@
 use Prim.Native.Nat.{ℕ, ◌+◌, ◌*◌, ◌^◌, ◌<◌, ◌≤◌}
 use mathlib.Core.Path.{◌≡◌, sym, ◌∙◌}
 use mathlib.Core.Bool.{Bool, true, false, cond, ◌&&◌, and-true, and-false}
-use mathlib.Core.List.{List, []}
 use lib.Dec.{eqb, ltb}
 use lib.ListN.{length, get_or-eq_default}
 use borrow.Author.Tests.{eq-eqb, ne_eqb}
@@ -16,10 +15,9 @@ use Rattle.geometry.proofs.Places.{address-past}
 use Rattle.geometry.proofs.Stages.{row-among}
 use Rattle.cover.specs.Image.{covered}
 use Rattle.reference.specs.Entry.{empty, pattern, empty_word, word_of, entry_of}
-use Rattle.reference.specs.Tables.{Tables, stored_word, stored_entry}
+use Rattle.reference.specs.Tables.{Tables, stored_entry}
 use Rattle.reference.specs.Image.{entry_rows, covers, store_cover}
 use Rattle.reference.proofs.Entries.{empty-fits, entry-word}
-use Rattle.calls.specs.Answers.{tables}
 
 module _ (g : Geometry) (f : Facts g) where
   -- a word covers the row of value x of stage k exactly when it is a pattern and x is its stage k
@@ -47,12 +45,3 @@ module _ (g : Geometry) (f : Facts g) where
   pub past-covered : (t : Tables) → length t.store ≡ g.depth → (r s : ℕ) → sets g ≤ s → covered g (store_cover g t) r s ≡ false
   unfolding covered covers entry_rows member
   past-covered t long r s h = any_false _ _ (λ o l. rw (past-entry t long (address_of g s o) (address-past g f s o h)))
-
--- Whether the entry at an offset of a set covers a row.
-abbrev pub covers_at : Geometry → (store : List ℕ) → (row set offset : ℕ) → Bool
-covers_at g store r s o = store_cover g (tables store []) (address_of g s o) r
-
--- the code has the address of offset o as a, its word as w, and what that covers as r
-pub covers-told : (g : Geometry) (store : List ℕ) (row s o : ℕ) {a w : ℕ} {r : Bool} → a ≡ address_of g s o → w ≡ stored_word (tables store []) a
-    → r ≡ covers g (entry_of g w) row → r ≡ covers_at g store row s o
-covers-told g store row s o at is gave = rw (gave, is, at)

@@ -1,17 +1,26 @@
--- Whether a word has a bit that another has not: by their bits, bit by bit cleared, and at the end.
-use Prim.Native.Nat.{ℕ, ◌+◌, ◌*◌, ◌%◌}
+-- Whether a word has a bit that another has not: by their bits, bit by bit cleared, and at the end; so the sets of its bits tell it, asked
+-- one by one.
+use Prim.Native.Nat.{ℕ, ◌+◌, ◌*◌, ◌%◌, ◌^◌, ◌<◌}
 use mathlib.Core.Path.{◌≡◌, refl, sym, ap, ◌∙◌}
 use mathlib.Core.Logic.{◌↔◌}
 use mathlib.Core.Bool.{Bool, true, false, not, ◌&&◌, and-eq-true_iff, true≢false, false≢true}
+use mathlib.Core.List.{List, [], ◌∷◌}
 use native.Mathlib.Omega.{arith}
 use lib.Dec.{eqb}
 use lib.Bits.{bit_and}
-use borrow.Author.Tests.{eqb-true, eq-eqb, not-false}
+use borrow.Author.Tests.{eqb-true, eq-eqb, not-true, not-false}
+use denote.Param.Members.{Mut}
+use Rattle.std.specs.Prelude.{Option, Some, None}
+use Rattle.std.specs.Fn.{Called}
+use Rattle.std.specs.Iterator.{Yields, YieldsThen}
+use Rattle.std.specs.List.{FoldsTo}
+use Rattle.std.specs.Option.{MatchOption}
 use Rattle.words.specs.Bits.{bit, clear_bit}
 use Rattle.words.proofs.Rules.{both_false}
-use Rattle.words.proofs.Bits.{bits-equal, bit-zero, bit-and, bit-clear, bit_word}
+use Rattle.words.proofs.Bits.{bits-equal, bit-zero, bit-and, bit-clear, bit_word, Lowest, lowest-turn}
 use Rattle.geometry.specs.declared.Geometry.{Geometry}
 use Rattle.cover.specs.Image.{Cover, covered}
+use Rattle.places.specs.Walks.{LowestFirst}
 use Rattle.stale.specs.Stale.{exceeds, image_word}
 
 pub exceeds-not : (w v : ℕ) → (exceeds w v ≡ false) ↔ ((b : ℕ) → bit w b ≡ true → bit v b ≡ true)
@@ -48,6 +57,30 @@ exceeds-on w v b other =
 pub exceeds-none : (w v : ℕ) → w ≡ 0 → false ≡ exceeds w v
 exceeds-none w v e = rw e (sym ((exceeds-not 0 v).1 (λ b h. absurd (false≢true (sym (bit-zero b) ∙ h)))))
 
--- the code has s as the set of bit s mod 64 of row word j, and r for whether it is covered
-pub image-told : (g : Geometry) (cover : Cover) (row j s : ℕ) {r : Bool} → s ≡ 64 * j + s % 64 → r ≡ covered g cover row s → bit (image_word g cover row j) (s % 64) ≡ r
-image-told g cover row j s whole gave = bit_word 64 _ (s % 64) (omega arith) ∙ ap (covered g cover row) (sym whole) ∙ sym gave
+-- the image has the bit of set s exactly where the set is covered
+bit-image_word : (g : Geometry) (cover : Cover) (row j s : ℕ) → s ≡ 64 * j + s % 64 → bit (image_word g cover row j) (s % 64) ≡ covered g cover row s
+bit-image_word g cover row j s whole = bit_word 64 _ (s % 64) (omega arith) ∙ ap (covered g cover row) (sym whole)
+
+-- The sets of a word's bits are asked from the lowest on, by a closure that keeps what it has, whether they are not covered.
+module _ {W T F : Type 0} (rest at : W → ℕ) (number : T → ℕ) {call : Mut F (T × Unit {0}) Bool} (g : Geometry) (cover : Cover) (row j : ℕ)
+    {f : F} {found : Bool} (answers : (x : T) (b : Bool) (q : F) → Called call f (x, tt) b q → (q ≡ f) × (b ≡ not (covered g cover row (number x)))) where
+  from : (w : W) → rest w < 2 ^ 64 → at w ≡ j → (xs : List T) (o : Option T) (k : F) (t u : W) → Yields (LowestFirst rest at number) w xs t
+      → LowestFirst rest at number t o u → FoldsTo (λ p x q. Called call p (x, tt) false q) f xs k
+      → MatchOption o (found ≡ false) (λ x. (found ≡ true) × ((h : F) × Called call k (x, tt) true h)) → found ≡ exceeds (rest w) (image_word g cover row j)
+  from w small here [] None k t u y s fs e = e ∙ exceeds-none _ _ (ap rest y ∙ s.0)
+  from w small here [] (Some x) k t u y s fs e =
+      let step = rw (← y) at s in
+      let turn : Lowest j (rest w) (number x) = lowest-turn j (rest w) (number x) small step.0 (rw here at step.1) in
+      let asked = answers x true e.1.0 (rw (← fs) at e.1.1) in
+      e.0 ∙ exceeds-here (rest w) _ (number x % 64) turn.here (bit-image_word g cover row j (number x) turn.whole ∙ not-true _ (sym asked.1))
+  from w small here (x ∷ xs) o k t u y s fs e =
+      let turn : Lowest j (rest w) (number x) = lowest-turn j (rest w) (number x) small y.1.0 (rw here at y.1.1) in
+      let asked = answers x false fs.0 fs.1 in
+      let left : rest y.0 ≡ clear_bit (rest w) (number x % 64) = y.1.2 in
+      from y.0 (omega (arith, turn.less, left)) (y.1.3 ∙ here) xs o k t u y.2 s (rw asked.0 at fs.2) e
+      ∙ rw left (exceeds-on (rest w) _ (number x % 64) (bit-image_word g cover row j (number x) turn.whole ∙ not-false _ (sym asked.1)))
+
+  pub sets-tell : (w u : W) → rest w < 2 ^ 64 → at w ≡ j
+      → (xs : List T) × (o : Option T) × (k : F) × YieldsThen (LowestFirst rest at number) w xs o u × FoldsTo (λ p x q. Called call p (x, tt) false q) f xs k
+      × MatchOption o (found ≡ false) (λ x. (found ≡ true) × ((h : F) × Called call k (x, tt) true h)) → found ≡ exceeds (rest w) (image_word g cover row j)
+  sets-tell w u small here (xs, o, k, steps, asked, end) = from w small here xs o k steps.0 u steps.1 steps.2 asked end

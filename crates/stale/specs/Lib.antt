@@ -1,1 +1,2 @@
 pub mod Stale
+pub mod Rows

@@ -1,6 +1,6 @@
 -- What the second look of a resume finds: a bit is stale, 1 where no entry of its set covers its row. Padding bits that are 1 are among
 -- them (rule 8.12 of docs/MEMORY.md).
-use Rattle.std.specs.Prelude.{ℕ, ◌+◌, ◌*◌, ◌^◌, ◌<◌, ◌≤◌, ◌≡◌, Bool, not, List, eqb, get_or}
+use Rattle.std.specs.Prelude.{ℕ, ◌+◌, ◌*◌, ◌^◌, Bool, not, eqb, get_or}
 use Rattle.std.specs.Int.Bits.{bit_and}
 use Rattle.words.specs.Rules.{any}
 use Rattle.words.specs.Bits.{word}
@@ -18,13 +18,6 @@ exceeds w v = not (eqb (bit_and w v) w)
 -- Word j of a row of the image.
 abbrev pub image_word : Geometry → Cover → (row j : ℕ) → ℕ
 image_word g cover r j = word 64 (λ b. covered g cover r (64 * j + b))
-
--- The words of a row, n in number, are 0 from `first` on up to word j, which is not 0, or is n.
-pub record PastZeros (ind : List ℕ) (n row first j : ℕ) : Type 0 where
-  pub from : first ≤ j
-  pub within : j ≤ n
-  pub zeros : (i : ℕ) → first ≤ i → i < j → get_or ind (n * row + i) 0 ≡ 0
-  pub stops : j < n → get_or ind (n * row + j) 0 ≡ 0 → ⊥
 
 -- Whether a bit is stale: in a word of a row, in a row, in the rows of a stage, anywhere.
 abbrev pub word_is_stale : Geometry → Tables → (row j : ℕ) → Bool

@@ -1,143 +1,122 @@
 // The second look of a resume at its tables (rule 8.12 of docs/MEMORY.md): every bit that is 1 has an entry of its set that covers its
 // row. It goes through the rows by their stages, the words of a row and the bits of a word, and makes no image: its time grows with the
-// words of the indicators, and for each bit that is 1 with the entries of a set. What is asked is what the check of `resume` has shown:
-// a valid geometry and its sizes, and tables of their lengths. The loops show that a stage, a value of a stage and a row word are ones
-// of the geometry.
+// words of the indicators, and for each bit that is 1 with the entries of a set.
 #![tactic(auto)]
 
-ghost use Rattle.std.specs.Prelude.{◌+◌, ◌*◌, ◌^◌, ◌<◌, ◌≤◌, ◌≡◌, [], length};
-ghost use Rattle.geometry.specs.Sizes.{row_words};
+ghost use Rattle.std.specs.Prelude.{◌^◌, ◌<◌, ◌≡◌};
+ghost use Rattle.geometry.specs.Sizes.{sets, row_words, address_of, set_length};
 ghost use Rattle.geometry.specs.Stages.{stages, stage_width};
 ghost use Rattle.cover.specs.Image.{covered};
 ghost use Rattle.reference.specs.Entry.{entry_of};
-ghost use Rattle.reference.specs.Image.{covers, store_cover};
-ghost use Rattle.checks.specs.Passed.{Sized, Lent};
-ghost use Rattle.calls.specs.Answers.{tables};
-ghost use Rattle.stale.specs.Stale.{exceeds, image_word, PastZeros, row_is_stale, stage_is_stale, any_is_stale};
+ghost use Rattle.reference.specs.Image.{covers};
+ghost use Rattle.calls.specs.Answers.{tables_in};
+ghost use Rattle.stale.specs.Stale.{exceeds, image_word, word_is_stale, row_is_stale, stage_is_stale, any_is_stale};
 
-use geometry::Geometry;
+use checks::Tables;
 use places::{Offset, RowWord, SetIndex};
-use sizes::Sizes;
 
-// Whether a word of the store covers the row of a value of stage `k`. Few have the value, so that is asked first.
-fn covers_row(g: Geometry, sizes: Sizes, word: u32, k: u32, value: u32) -> bool
-    requires { Sized g sizes × (k < stages g) × (value < 2 ^ stage_width g k) }
-    ensures { result ≡ covers g (entry_of g word) (512 * k + value) }
-{
-    sizes::stage(g, k, word) == value && word < sizes.patterns
-}
-
-// Whether some entry of the set covers the row of a value of stage `k`. Past the last set there are no entries.
-fn is_covered(g: Geometry, sizes: Sizes, store: &[u32], set: SetIndex, k: u32, value: u32) -> bool
-    requires { Sized g sizes × (length store.now ≡ g.depth) × (k < stages g) × (value < 2 ^ stage_width g k) }
-    ensures { result ≡ covered g (store_cover g (tables store.now [])) (512 * k + value) set.0 }
-{
-    if set.is_outside(sizes) {
-        return false;
-    }
-    let length = set.length(g);
-    let mut at = Offset::first();
-    while at.is_within(length) {
-        let word = set.address(at, g).word(store);
-        if covers_row(g, sizes, word, k, value) {
-            return true;
-        }
-        at = at.next();
-    }
-    false
-}
-
-// Whether a bit of row word `j`, which is `word`, is stale.
-fn word_is_stale(
-    g: Geometry,
-    sizes: Sizes,
-    store: &[u32],
-    word: u64,
-    j: RowWord,
-    k: u32,
+// The row of a value of a stage.
+#[derive(Clone, Copy)]
+struct Row<'a> {
+    tables: &'a Tables<'a>,
+    stage: u32,
     value: u32,
-) -> bool
-    requires { Sized g sizes × (length store.now ≡ g.depth) × (k < stages g) × (value < 2 ^ stage_width g k) × (j.0 < row_words g) }
-    ensures { result ≡ exceeds word (image_word g (store_cover g (tables store.now [])) (512 * k + value) j.0) }
-{
-    let mut rest = word;
-    while rest != 0 {
-        let set = SetIndex::lowest(rest, j);
-        if !is_covered(g, sizes, store, set, k, value) {
-            return true;
-        }
-        rest = set.without(rest);
-    }
-    false
+    ghost is_stage: { stage < stages tables.now.layout.geometry },
+    ghost is_value: { value < 2 ^ stage_width tables.now.layout.geometry stage },
 }
 
-// The first word of the row, from a given one on, that is not 0; the end of the row where all are. Most are, and this loop has nothing
-// else to do.
-fn past_zeros(sizes: Sizes, indicators: &[u64], row: usize, from: RowWord) -> RowWord
-    requires { (sizes.row_words ≤ 64) × (sizes.row_words * row + sizes.row_words ≤ length indicators.now) × (from.0 ≤ sizes.row_words) }
-    ensures { PastZeros indicators.now sizes.row_words row from.0 result.0 }
-{
-    let mut j = from;
-    while j.is_within(sizes) {
-        if j.read(indicators, row, sizes) != 0 {
-            return j;
+impl<'a> Row<'a> {
+    ghost use Rattle.stale.specs.Rows.{geometry_of, number, cover_of};
+
+    // The walks over stages and their values show that there is such a row.
+    fn new(tables: &'a Tables<'a>, stage: u32, value: u32) -> Row<'a>
+        requires { (stage < stages tables.now.layout.geometry) × (value < 2 ^ stage_width tables.now.layout.geometry stage) }
+        ensures { (result.tables ≡ tables.entry) × (result.stage ≡ stage) × (result.value ≡ value) }
+    {
+        Row {
+            tables,
+            stage,
+            value,
         }
-        j = j.next();
     }
-    j
+
+    // By `as`: there is no `From` into `usize`.
+    fn number(&self) -> usize
+        ensures { result ≡ number self.now }
+    {
+        (512 * self.stage + self.value) as usize
+    }
+
+    // Whether a word of the store covers it. Few have the value, so that is asked first.
+    fn is_covered_by(&self, word: u32) -> bool
+        ensures { result ≡ covers (geometry_of self.now) (entry_of (geometry_of self.now) word) (number self.now) }
+    {
+        let layout = self.tables.layout;
+        layout.stage(self.stage, word) == self.value && word < layout.sizes.patterns
+    }
+
+    // Whether the entry at an offset of a set covers it.
+    fn is_covered_at(&self, set: SetIndex, at: Offset) -> bool
+        requires { (set.0 < sets (geometry_of self.now)) × (at.0 < set_length (geometry_of self.now) set.0) }
+        ensures { result ≡ cover_of self.now (address_of (geometry_of self.now) set.0 at.0) (number self.now) }
+    {
+        self.is_covered_by(set.address(at, self.tables.layout).word(self.tables.store))
+    }
+
+    // Whether some entry of the set covers it. Past the last set there are no entries.
+    fn is_covered(&self, set: SetIndex) -> bool
+        ensures { result ≡ covered (geometry_of self.now) (cover_of self.now) (number self.now) set.0 }
+    {
+        let layout = self.tables.layout;
+        if set.is_outside(layout.sizes) {
+            return false;
+        }
+        set.length(layout)
+            .offsets()
+            .any(|at| self.is_covered_at(set, at))
+    }
+
+    // Whether a bit of its word `at`, which is `word`, is stale. Kept out of the walk over the words, most of which are 0.
+    #[inline(never)]
+    fn word_is_stale(&self, word: u64, at: RowWord) -> bool
+        requires { at.0 < row_words (geometry_of self.now) }
+        ensures { result ≡ exceeds word (image_word (geometry_of self.now) (cover_of self.now) (number self.now) at.0) }
+    {
+        at.sets(word).any(|set| !self.is_covered(set))
+    }
+
+    // Whether a bit of its word `at` is stale. One that is 0 costs no more than to be read.
+    fn is_stale_at(&self, at: RowWord) -> bool
+        requires { at.0 < row_words (geometry_of self.now) }
+        ensures { result ≡ word_is_stale (geometry_of self.now) (tables_in self.now.tables.now) (number self.now) at.0 }
+    {
+        let word = at.read(
+            self.tables.indicators,
+            self.number(),
+            self.tables.layout.sizes,
+        );
+        word != 0 && self.word_is_stale(word, at)
+    }
+
+    // Whether a bit in it is stale.
+    fn is_stale(&self) -> bool
+        ensures { result ≡ row_is_stale (geometry_of self.now) (tables_in self.now.tables.now) (number self.now) }
+    {
+        RowWord::all(self.tables.layout).any(|at| self.is_stale_at(at))
+    }
 }
 
-// Whether a bit in the row of a value of stage `k` is stale.
-fn row_is_stale(
-    g: Geometry,
-    sizes: Sizes,
-    store: &[u32],
-    indicators: &[u64],
-    k: u32,
-    value: u32,
-) -> bool
-    requires { Lent g sizes (length store.now) (length indicators.now) × (k < stages g) × (value < 2 ^ stage_width g k) }
-    ensures { result ≡ row_is_stale g (tables store.now indicators.now) (512 * k + value) }
+// Whether a bit in a row of a stage is stale.
+fn stage_is_stale(tables: &Tables<'_>, stage: u32) -> bool
+    requires { stage < stages tables.now.layout.geometry }
+    ensures { result ≡ stage_is_stale tables.now.layout.geometry (tables_in tables.now) stage }
 {
-    let row = (512 * k + value) as usize;
-    let mut j = past_zeros(sizes, indicators, row, RowWord::first());
-    while j.is_within(sizes) {
-        let word = j.read(indicators, row, sizes);
-        if word_is_stale(g, sizes, store, word, j, k, value) {
-            return true;
-        }
-        j = past_zeros(sizes, indicators, row, j.next());
-    }
-    false
-}
-
-// Whether a bit in a row of stage `k` is stale.
-fn stage_is_stale(g: Geometry, sizes: Sizes, store: &[u32], indicators: &[u64], k: u32) -> bool
-    requires { Lent g sizes (length store.now) (length indicators.now) × (k < stages g) }
-    ensures { result ≡ stage_is_stale g (tables store.now indicators.now) k }
-{
-    let values = sizes::stage_rows(g, k);
-    let mut value = 0;
-    while value < values {
-        if row_is_stale(g, sizes, store, indicators, k, value) {
-            return true;
-        }
-        value += 1;
-    }
-    false
+    (0..tables.layout.stage_rows(stage)).any(|value| Row::new(tables, stage, value).is_stale())
 }
 
 // The second look: whether any bit is stale.
-pub fn any_is_stale(g: Geometry, sizes: Sizes, store: &[u32], indicators: &[u64]) -> bool
-    requires { Lent g sizes (length store.now) (length indicators.now) }
-    ensures { result ≡ any_is_stale g (tables store.now indicators.now) }
+pub fn any_is_stale(tables: &Tables<'_>) -> bool
+    ensures { result ≡ any_is_stale tables.now.layout.geometry (tables_in tables.now) }
 {
-    let mut k = 0;
-    while k < sizes.stages {
-        if stage_is_stale(g, sizes, store, indicators, k) {
-            return true;
-        }
-        k += 1;
-    }
-    false
+    (0..tables.layout.sizes.stages).any(|stage| stage_is_stale(tables, stage))
 }

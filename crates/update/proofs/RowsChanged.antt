@@ -1,37 +1,40 @@
--- What the functions of `update` find in a turn of their loops and at the end of them: the rows of a pattern stage by stage,
--- the addresses of a set one by one; and what `replace` makes of it.
+-- What the functions of `update` find in a turn of their loops and at the end of them, the rows of a pattern stage by stage; of the
+-- set of the address that another entry comes to; and what `replace` makes of it.
 use Prim.Native.Nat.{ℕ, ◌+◌, ◌*◌, ◌/◌, ◌%◌, ◌<◌}
-use mathlib.Core.Path.{◌≡◌, sym, ◌∙◌}
+use mathlib.Core.Path.{◌≡◌, refl, ◌∙◌}
 use mathlib.Core.Bool.{Bool, true, false, cond, not, ◌&&◌, ◌||◌}
 use mathlib.Core.List.{List, [], ◌∷◌}
+use Rattle.std.specs.Prelude.{Option, Ok, Err}
 use lib.Dec.{eqb, ltb}
 use lib.ListN.{length, set, drop}
-use borrow.Author.Tests.{eq-eqb, ne_eqb}
-use Rattle.words.specs.Rules.{member, keep}
+use Rattle.words.specs.Rules.{any, keep}
 use Rattle.words.specs.Bits.{set_bit, clear_bit, change_bit}
-use Rattle.words.proofs.Bits.{length-change_bit}
 use Rattle.geometry.specs.declared.Geometry.{Geometry}
-use Rattle.geometry.specs.Valid.{valid}
-use Rattle.geometry.specs.Sizes.{set_of, address_of, set_length}
-use Rattle.geometry.specs.Stages.{stages, row_of, rows_of}
+use Rattle.geometry.specs.Sizes.{sets, set_of, address_of, set_length}
+use Rattle.geometry.specs.Stages.{stages, row_of, rows_of, indicator_words}
 use Rattle.geometry.proofs.Facts.{facts}
-use Rattle.geometry.proofs.Places.{set-lt, address-lt}
+use Rattle.geometry.proofs.Places.{address-lt}
 use Rattle.geometry.proofs.Stages.{rows_drop}
-use Rattle.cover.specs.Image.{Cover}
 use Rattle.cover.specs.Change.{change, others_cover, is_released, moved}
 use Rattle.reference.specs.Entry.{Entry, empty, pattern, empty_word, word_of}
-use Rattle.reference.specs.Calls.{refused, held}
-use Rattle.reference.specs.Tables.{stored_word, stored_entry}
-use Rattle.reference.specs.Image.{entry_rows, covers, store_cover}
+use Rattle.reference.specs.Tables.{stored_word}
+use Rattle.reference.specs.Image.{entry_rows, store_cover}
 use Rattle.reference.specs.Update.{replaced}
 use Rattle.reference.specs.Steps.{bad_entry}
 use Rattle.sizes.specs.declared.Sizes.{Sizes}
-use Rattle.checks.specs.Passed.{Sized}
-use Rattle.calls.specs.Answers.{tables}
+use Rattle.sizes.specs.SizesOf.{Sized}
+use Rattle.checks.specs.declared.Refusal.{Refusal}
+use Rattle.checks.specs.declared.Refusal.TheVariants.{BadEntry}
+use Rattle.checks.specs.Checks.{refused_if}
+use Rattle.calls.specs.declared.Answer.TheVariants.{Held}
+use Rattle.calls.specs.Answers.{entry_for, tables, left}
+use Rattle.calls.proofs.Indexed.{place-within, set-within}
 use Rattle.calls.proofs.Tested.{entry-bad, entry-held}
+use Rattle.update.specs.declared.Target.{Target}
+use Rattle.update.specs.Targets.{cover_in}
 use Rattle.update.specs.Replacing.{replacing}
 
--- ---- a row and its word for a set
+-- ---- the rows of a pattern
 
 -- the rows from stage k on, of which the code has the first as r
 pub rows-first : (g : Geometry) (p k : ℕ) {r : ℕ} → r ≡ row_of g p k → k < stages g → drop k (rows_of g p) ≡ r ∷ drop (k + 1) (rows_of g p)
@@ -39,94 +42,74 @@ rows-first g p k e h = rw e (rows_drop g p k h)
 
 -- ---- the indicators while rows are changed
 
--- The rows rs, which are left to be changed in set s, make `all` of the indicators; those are n words, as at first.
-pub record Left (f : ℕ → ℕ → ℕ) (g : Geometry) (s n : ℕ) (rs all ind : List ℕ) : Type 0 where
-  pub same_length : length ind ≡ n
+-- The rows rs, which are left to be changed in set s, make `all` of the indicators.
+pub record Left (f : ℕ → ℕ → ℕ) (g : Geometry) (s : ℕ) (rs all ind : List ℕ) : Type 0 where
   pub makes : change f g s rs ind ≡ all
 
-module _ {f : ℕ → ℕ → ℕ} {g : Geometry} {s n : ℕ} {rs all ind : List ℕ} (h : Left f g s n rs all ind) where
+module _ {f : ℕ → ℕ → ℕ} {g : Geometry} {s : ℕ} {rs all ind : List ℕ} (h : Left f g s rs all ind) where
   -- the bit of the first of them is changed
   pub change-first : {sizes : Sizes} {next rest : List ℕ} {r : ℕ} → Sized g sizes → rs ≡ r ∷ rest
-      → next ≡ change_bit f ind (sizes.row_words * r + s / 64) (s % 64) → Left f g s n rest all next
+      → next ≡ change_bit f ind (sizes.row_words * r + s / 64) (s % 64) → Left f g s rest all next
   unfolding change
-  change-first z cut e = record {
-    same_length = rw e (length-change_bit f ind _ (s % 64) ∙ h.same_length);
-    makes = rw (e, z.same-words) (rw cut at h.makes);
-  }
+  change-first z cut e = record { makes = rw (e, z.same-words) (rw cut at h.makes) }
 
   -- nothing is changed
-  pub change-none : {next rest : List ℕ} → rs ≡ rest → next ≡ ind → Left f g s n rest all next
+  pub change-none : {next rest : List ℕ} → rs ≡ rest → next ≡ ind → Left f g s rest all next
   change-none same e = rw (e, ← same) h
 
   pub change-end : rs ≡ [] → ind ≡ all
   unfolding change
   change-end e = rw e at h.makes
 
--- Of some rows those that are released in the set of a when its next entry is e.
-abbrev pub given_up : Geometry → Cover → (a : ℕ) → Entry → (rows : List ℕ) → List ℕ
-given_up g cover a e = keep (is_released g cover a (entry_rows g e))
+-- by the first row, r, where b is whether t keeps it
+module _ (t : ℕ → Bool) {rs rest : List ℕ} {r : ℕ} {b : Bool} (cut : rs ≡ r ∷ rest) (found : b ≡ t r) where
+  pub keep-first : b ≡ true → keep t rs ≡ r ∷ keep t rest
+  unfolding keep
+  keep-first n = rw (cut, ← found, n)
 
--- by the first row, r, where `next` is whether e covers it, and `other` whether another address does
-module _ (g : Geometry) (cover : Cover) (a : ℕ) (e : Entry) {rs rest : List ℕ} {r : ℕ} {next : Bool} (cut : rs ≡ r ∷ rest) (found : next ≡ covers g e r) where
-  pub kept-by-next : next ≡ true → given_up g cover a e rs ≡ given_up g cover a e rest
-  unfolding keep covers
-  kept-by-next n = rw (cut, ← found, n)
-
-  pub others-decide : {other b : Bool} → next ≡ false → other ≡ others_cover g cover a r → other ≡ b
-      → given_up g cover a e rs ≡ cond (not b) (r ∷ given_up g cover a e rest) (given_up g cover a e rest)
-  unfolding keep covers
-  others-decide n others m = rw (cut, ← found, n, ← others, m)
+  pub keep-others : b ≡ false → keep t rs ≡ keep t rest
+  unfolding keep
+  keep-others n = rw (cut, ← found, n)
 
 pub keep-end : (t : ℕ → Bool) {rs : List ℕ} → rs ≡ [] → keep t rs ≡ []
 unfolding keep
 keep-end t e = rw e
 
--- ---- a row among the rows of an entry
+-- ---- the set of the address, which the code has as s
 
--- where the rows rs, which are left, decide
-module _ (x : ℕ) {rs : List ℕ} {among : Bool} (h : member x rs ≡ among) where
-  pub member-here : {rest : List ℕ} {r : ℕ} → rs ≡ r ∷ rest → r ≡ x → true ≡ among
-  unfolding member
-  member-here {r = r} cut e = rw (cut, eq-eqb x r (sym e)) at h
+module _ (t : Target) {s : ℕ} (is : s ≡ set_of t.layout.geometry t.address.0) where
+  pub set-there : s < sets t.layout.geometry
+  set-there = set-within _ t.layout.sized.is-valid t.inside is
 
-  pub member-next : {rest : List ℕ} {r : ℕ} → rs ≡ r ∷ rest → (r ≡ x → ⊥) → member x rest ≡ among
-  unfolding member
-  member-next {r = r} cut n = rw (cut, ne_eqb x r (λ e. n (sym e))) at h
+  -- the bit of a pattern's row in stage k, where the n words are those of the i lent ones
+  pub bit-there : (p : ℕ) {k r i n : ℕ} → i ≡ indicator_words t.layout.geometry → n ≡ i → k < t.layout.sizes.stages → r ≡ row_of t.layout.geometry p k
+      → t.layout.sizes.row_words * r + s / 64 < n
+  bit-there p words same hk er = place-within p (record { sized = t.layout.sized; entries = t.entries; words = words }) same hk er set-there
 
-  pub member-end : rs ≡ [] → false ≡ among
-  unfolding member
-  member-end e = rw e at h
+  pub address-there : (o : ℕ) → o < set_length t.layout.geometry s → (b : ℕ) → b ≡ address_of t.layout.geometry s o → b < length t.store.now
+  address-there o ho b eb =
+      let g = t.layout.geometry in
+      let f = facts g t.layout.sized.is-valid in
+      rw (t.entries, eb) (address-lt g f s o set-there ho)
 
--- ---- the addresses of a set
+  -- whether the address at offset o is another one that covers the row
+  abbrev pub other_covers : (row o : ℕ) → Bool
+  other_covers row o = not (eqb (address_of t.layout.geometry s o) t.address.0) && cover_in t (address_of t.layout.geometry s o) row
 
--- whether at offset o of the set of a there is another address, with an entry that covers the row
-abbrev pub other_covers : Geometry → (store : List ℕ) → (a row o : ℕ) → Bool
-other_covers g store a row o = not (eqb (address_of g (set_of g a) o) a) && covers g (stored_entry g (tables store []) (address_of g (set_of g a) o)) row
-
--- The address at offset o of the set of a is b, and the store has it.
-pub record Beside (g : Geometry) (store : List ℕ) (a o b : ℕ) : Type 0 where
-  pub within : o < set_length g (set_of g a)
-  pub is : b ≡ address_of g (set_of g a) o
-  pub inside : b < length store
-
-pub beside : (g : Geometry) (store : List ℕ) (a o b s : ℕ) → valid g ≡ true → length store ≡ g.depth → a < g.depth
-    → o < set_length g s → s ≡ set_of g a → b ≡ address_of g s o → Beside g store a o b
-beside g store a o b s ok full ha ho es eb =
-    let f = facts g ok in
-    let within : o < set_length g (set_of g a) = rw es at ho in
-    record { within = within; is = rw (← es) eb; inside = rw (full, eb, es) (address-lt g f (set_of g a) o (set-lt g f a ha) within) }
-
--- where `same` is whether the code found b to be a
-module _ {g : Geometry} {store : List ℕ} {a o b : ℕ} (row : ℕ) (h : Beside g store a o b) {same : Bool} (found : same ≡ eqb b a) where
-  pub covers-not : same ≡ true → other_covers g store a row o ≡ false
-  covers-not n = rw (← h.is, ← found, n)
-
-  -- x is the entry of the word w that the code reads there, and r whether it covers the row
-  pub covers-other : {sizes : Sizes} {w : ℕ} {x : Entry} {r : Bool} → Sized g sizes → same ≡ false → w ≡ stored_word (tables store []) b
-      → x ≡ cond (ltb w sizes.patterns) (pattern w) empty → r ≡ covers g x row → other_covers g store a row o ≡ r
-  covers-other {w = w} z n ew ex er = rw (← h.is, ← found, n, er, ex, entry-held z store [] b w ew)
+  pub all-others : (row : ℕ) → any (set_length t.layout.geometry s) (other_covers row) ≡ others_cover t.layout.geometry (cover_in t) t.address.0 row
+  unfolding others_cover
+  all-others row = rw is
 
 -- ---- an entry comes to an address
+
+-- what the row of refusal 5 tells of the word
+refuses : (sound : Bool) {why : Refusal} → refused_if BadEntry (not sound) ≡ Err why → (sound ≡ false) × (why ≡ BadEntry)
+refuses true given = absurd (cc)
+refuses false given = (refl, cc)
+
+passes : (sound : Bool) {u : Unit {0}} → refused_if BadEntry (not sound) ≡ Ok u → sound ≡ true
+passes true given = refl
+passes false given = absurd (cc)
 
 -- e is the entry, w the word of the store at the address a; `sound` is what the code found of it
 module _ {g : Geometry} {sizes : Sizes} (z : Sized g sizes) (store ind : List ℕ) (a : ℕ) {w : ℕ} (e : Entry) {sound : Bool} (is : w ≡ stored_word (tables store ind) a)
@@ -134,15 +117,14 @@ module _ {g : Geometry} {sizes : Sizes} (z : Sized g sizes) (store ind : List �
   bad : {b : Bool} → sound ≡ b → bad_entry g (tables store ind) a ≡ not b
   bad n = entry-bad z store ind a w is ∙ rw (← found, n)
 
-  pub replace-refused : sound ≡ false → record { answer = refused 5; tables = tables store ind; matches = [] } ≡ replacing g (tables store ind) a e
+  pub replace-refused : {why : Refusal} → refused_if BadEntry (not sound) ≡ Err why → left (Err why) store ind [] ≡ replacing g (tables store ind) a e
   unfolding replacing
-  replace-refused n = rw (bad n)
+  replace-refused given = let stop = refuses sound given in rw (stop.1, bad stop.0)
 
-  -- x is the former entry, s the code's set of a and v its word of e; i₁ and i₂ are the indicators with bits set and then cleared,
-  -- `after` the store
-  pub replace-done : {x : Entry} {s v : ℕ} {i₁ i₂ after : List ℕ} → sound ≡ true → x ≡ cond (ltb w sizes.patterns) (pattern w) empty
-      → s ≡ set_of g a → i₁ ≡ change set_bit g s (entry_rows g e) ind
-      → i₂ ≡ change clear_bit g (set_of g a) (given_up g (store_cover g (tables store [])) a e (entry_rows g x)) i₁ → v ≡ word_of e → after ≡ set store a v
-      → record { answer = held x; tables = tables after i₂; matches = [] } ≡ replacing g (tables store ind) a e
-  unfolding replacing replaced moved others_cover
-  replace-done n ex es e₁ e₂ ev e₃ = rw (bad n, e₃, e₂, e₁, ex, entry-held z store ind a w is, es, ev)
+  -- x is the former entry and v the code's word of e; i₁ and i₂ are the indicators with bits set and then cleared, `after` the store
+  pub replace-done : (x : Option ℕ) {u : Unit {0}} {v : ℕ} {i₁ i₂ after : List ℕ} → refused_if BadEntry (not sound) ≡ Ok u
+      → entry_for x ≡ cond (ltb w sizes.patterns) (pattern w) empty → i₁ ≡ change set_bit g (set_of g a) (entry_rows g e) ind
+      → i₂ ≡ change clear_bit g (set_of g a) (keep (is_released g (store_cover g (tables store [])) a (entry_rows g e)) (entry_rows g (entry_for x))) i₁
+      → v ≡ word_of e → after ≡ set store a v → left (Ok (Held x)) after i₂ [] ≡ replacing g (tables store ind) a e
+  unfolding replacing replaced moved
+  replace-done x given ex e₁ e₂ ev e₃ = rw (bad (passes sound given), e₃, e₂, e₁, ex, entry-held z store ind a w is, ev)

@@ -1,5 +1,5 @@
 pub mod Rules
 pub mod Bits
 pub mod Machine
-pub mod Fill
 pub mod Seek
+pub mod Chains

@@ -1,22 +1,22 @@
 -- What the operations of the code give: at any width k a shifted one, a set bit, a cleared bit and the count of ones; the
--- three cases of a row's mask; and the steps of the loop that counts.
+-- three cases of a row's mask; and what a count over words is.
 use Prim.Native.Nat.{ℕ, zero, suc, ◌+◌, ◌-◌, ◌*◌, ◌/◌, ◌%◌, ◌^◌, ◌<◌, ◌≤◌, min}
-use mathlib.Core.Path.{◌≡◌, refl, sym, ◌∙◌}
+use mathlib.Core.Path.{◌≡◌, refl, sym, ap, ◌∙◌}
 use mathlib.Core.Bool.{Bool, true, false, not, ◌&&◌, and_comm}
-use mathlib.Core.List.{List}
+use mathlib.Core.List.{List, [], ◌∷◌}
 use native.Mathlib.Nat.{one-mul, mod-eq_of_lt, pow-suc}
-use native.Mathlib.Numerals.{add-one}
 use native.Mathlib.Omega.{arith}
 use lib.Dec.{eqb, ltb}
 use lib.Pow.{pow-lt}
 use lib.Bits.{bit_and, bit_or}
 use lib.Count.{ones, ones_in, ones_step}
-use lib.ListN.{length, get_or, drop, drop_of_length-le}
-use lib.Seq.{drop-cons}
+use lib.ListN.{length, get_or}
+use Rattle.std.specs.List.{sum_by}
+use Rattle.std.proofs.lemmas.List.Sums.{sum_by-cons, sum_by-le}
 use borrow.Author.Tests.{ltb-false}
 use Rattle.words.specs.Rules.{count}
 use Rattle.words.specs.Bits.{bit, set_bit, clear_bit, row_mask, total_ones}
-use Rattle.words.proofs.Rules.{count-ext, count-front}
+use Rattle.words.proofs.Rules.{count-ext, count-front, count_most}
 use Rattle.words.proofs.Bits.{bits-equal, bit-out, bit_not, bit-pow, bit-suc, bit-and, bit-clear, low-of-bit}
 
 pub shifted_one : (k b : ℕ) → b < k → 1 * 2 ^ b % 2 ^ k ≡ 2 ^ b
@@ -56,9 +56,12 @@ pub mask-part : (n j : ℕ) → n / 64 ≡ j → row_mask n j ≡ 2 ^ (n % 64) -
 unfolding row_mask
 mask-part n j h = let e : min 64 (n - 64 * j) ≡ n % 64 = omega arith in rw e
 
--- the ones of the words that are left: one word fewer, and no word
-pub left_step : (ws : List ℕ) (i : ℕ) → i < length ws → total_ones (drop i ws) ≡ count 64 (bit (get_or ws i 0)) + total_ones (drop (i + 1) ws)
-left_step ws i h = rw (add-one, drop-cons ws i 0) (unfold total_ones in refl)
+-- what words have in all is the sum of what each has
+pub total-sum : (ws : List ℕ) → sum_by (λ w. count 64 (bit w)) ws ≡ total_ones ws
+unfolding total_ones
+total-sum [] = refl
+total-sum (w ∷ ws) = sum_by-cons (λ w. count 64 (bit w)) w ws ∙ ap (λ n. count 64 (bit w) + n) (total-sum ws)
 
-pub left-none : (ws : List ℕ) (i : ℕ) → length ws ≤ i → total_ones (drop i ws) ≡ 0
-left-none ws i h = rw (drop_of_length-le ws h) (unfold total_ones in refl)
+-- and few words have few
+pub total-most : (ws : List ℕ) → length ws ≤ 64 → sum_by (λ w. count 64 (bit w)) ws < 2 ^ 32
+total-most ws h = omega (arith, sum_by-le (λ w. count 64 (bit w)) 64 ws (λ k d h. count_most 64 (bit (get_or ws k d))))

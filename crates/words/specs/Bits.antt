@@ -1,5 +1,5 @@
 -- Single bits of a number, and the number that has given bits.
-use Rattle.std.specs.Prelude.{ℕ, zero, suc, ◌+◌, ◌-◌, ◌*◌, ◌/◌, ◌%◌, ◌^◌, min, Bool, cond, List, [], ◌∷◌, eqb, get_or, set}
+use Rattle.std.specs.Prelude.{ℕ, zero, suc, ◌+◌, ◌-◌, ◌*◌, ◌/◌, ◌%◌, ◌^◌, min, Bool, true, false, cond, List, [], ◌∷◌, eqb, get_or, set}
 use Rattle.std.specs.Int.Bits.{bit_or, bit_xor}
 use Rattle.words.specs.Rules.{count, tabulate}
 
@@ -15,7 +15,12 @@ set_bit n i = bit_or n (2 ^ i)
 unfoldable pub clear_bit : ℕ → ℕ → ℕ
 clear_bit n i = bit_xor (bit_or n (2 ^ i)) (2 ^ i)
 
--- Words with bit b of word m changed, by set_bit or by clear_bit.
+-- n with bit i set where v holds, and else cleared.
+abbrev pub put_bit : (v : Bool) → ℕ → ℕ → ℕ
+put_bit true = set_bit
+put_bit false = clear_bit
+
+-- Words with bit b of word m changed by f, which sets or clears it.
 unfoldable pub change_bit : (ℕ → ℕ → ℕ) → (words : List ℕ) → (m b : ℕ) → List ℕ
 change_bit f ws m b = set ws m (f (get_or ws m 0) b)
 

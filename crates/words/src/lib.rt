@@ -1,25 +1,20 @@
 // Bits of 64-bit words and of slices of words. Nothing here knows of memories.
 #![tactic(auto)]
 
-ghost use Rattle.std.specs.Prelude.{◌<◌, ◌≤◌, ◌≡◌, length, replicate};
-ghost use Rattle.std.specs.Int.Count.{count_trailing_zeros};
+ghost use Rattle.std.specs.Prelude.{◌<◌, ◌≤◌, ◌≡◌, length};
 ghost use Rattle.words.specs.Rules.{count};
-ghost use Rattle.words.specs.Bits.{bit, set_bit, clear_bit, change_bit, row_mask, total_ones};
+ghost use Rattle.words.specs.Bits.{bit, put_bit, clear_bit, change_bit, row_mask, total_ones};
 
-// Bit `bit` of word `at` becomes 1. The address or the set whose bit it is shows what is asked, with what it was asked itself.
-pub fn set_bit(words: &mut [u64], at: usize, bit: u32)
+// Bit `bit` of word `at` becomes `value`. The address or the set whose bit it is shows what is asked, with what it was asked itself.
+pub fn put_bit(words: &mut [u64], at: usize, bit: u32, value: bool)
     requires { (at < length words.old) × (bit < 64) }
-    ensures { words.new ≡ change_bit set_bit words.old at bit }
+    ensures { words.new ≡ change_bit (put_bit value) words.old at bit }
 {
-    words[at] = words[at] | (1u64 << bit);
-}
-
-// Bit `bit` of word `at` becomes 0. What is asked is shown as for `set_bit`.
-pub fn clear_bit(words: &mut [u64], at: usize, bit: u32)
-    requires { (at < length words.old) × (bit < 64) }
-    ensures { words.new ≡ change_bit clear_bit words.old at bit }
-{
-    words[at] = without_bit(words[at], bit);
+    words[at] = if value {
+        words[at] | (1u64 << bit)
+    } else {
+        without_bit(words[at], bit)
+    };
 }
 
 // A word with bit `bit` cleared. A set shows what is asked, of its bit in a word of a row.
@@ -51,29 +46,11 @@ pub fn row_mask(places: usize, word: usize) -> u64
     (1u64 << (places % 64)) - 1
 }
 
-// The lowest set bit of a word, and 64 where none is set.
-pub fn lowest_bit(word: u64) -> u32
-    ensures { result ≡ count_trailing_zeros 64 word }
-{
-    u64::trailing_zeros(word)
-}
-
-// Every word becomes 0.
-pub fn zero_all(words: &mut [u64])
-    ensures { words.new ≡ replicate (length words.old) 0 }
-{
-    let mut i = 0;
-    while i < words.len() {
-        words[i] = 0;
-        i += 1;
-    }
-}
-
 // The ones of a word.
-pub fn ones(word: u64) -> u32
+fn ones(word: u64) -> u32
     ensures { result ≡ count 64 (bit word) }
 {
-    u64::count_ones(word)
+    word.count_ones()
 }
 
 // The ones of all words. The call that counts its hits shows the bound: a match word has 64 words at most.
@@ -81,11 +58,5 @@ pub fn total_ones(words: &[u64]) -> u32
     requires { length words.now ≤ 64 }
     ensures { result ≡ total_ones words.now }
 {
-    let mut total: u32 = 0;
-    let mut i = 0;
-    while i < words.len() {
-        total += ones(words[i]);
-        i += 1;
-    }
-    total
+    words.iter().map(|word| ones(*word)).sum()
 }

@@ -1,16 +1,17 @@
--- `amiss::any_is_amiss` meets its contract: where it stops an address is amiss, and past the last none was.
-use Rattle.std.proofs.Common.{◌<◌, arith, rules}
-use Rattle.words.proofs.Rules.{any_here, any-over}
-use Rattle.geometry.proofs.Facts.{facts}
+-- `amiss::any_is_amiss` meets its contract: it asks each address.
+use Rattle.std.proofs.Common.{rules, tests}
+use Rattle.words.proofs.Chains.{any-of-items, each-item}
+use Rattle.places.proofs.Walking.{walk-items}
+use Rattle.calls.specs.Answers.{tables_in}
+use Rattle.amiss.specs.Amiss.{is_amiss}
 use Rattle.amiss.proofs.any_is_amiss.Goals as goal
 
-pub returns-then-is_amiss : goal.returns-then-is_amiss
-returns-then-is_amiss c = any_here _ _ c.loop-g.address.0 (search rules) c.is_amiss.ensures c.if-is_amiss.true
-
-pub next-address-requires : goal.next-address-requires
-next-address-requires c =
-    let inside : c.loop-g.address.0 < c.args.g.depth = search rules in
-    omega (arith, inside, (facts _ c.requires.sized.is-valid).depth-most)
+pub any-requires-clause-callable : goal.any-requires-clause-callable
+any-requires-clause-callable c =
+    each-item c.args.tables.now.layout.geometry.depth (walk-items _ _ _ _ _ c.all.ensures) (λ x q r. search rules) (λ x h. search rules)
 
 pub returns : goal.returns
-returns c = any-over _ _ c.loop-g.address.0 (search rules) c.loop-g.invariant
+returns c =
+    let t = c.args.tables.now in
+    any-of-items t.layout.geometry.depth (walk-items _ _ _ _ _ c.all.ensures) (is_amiss t.layout.geometry (tables_in t)) _ _ _ c.any.ensures.ran
+    (λ x b q k. search (rules, tests))

@@ -1,33 +1,30 @@
--- `collect::any_is_false` meets its contract. The invariant: no row word before j indicates a false set.
-use native.Mathlib.Omega.{arith}
-use borrow.Author.Rules.{rules}
-use Rattle.words.proofs.Rules.{tested-below, tested-past}
+-- `collect::any_is_false` meets its contract: `any` goes through the row words.
+use Rattle.std.proofs.Common.{sym, ◌∙◌, rules}
+use borrow.Author.Tests.{tests}
+use Rattle.words.proofs.Chains.{any-of-items, each-item}
+use Rattle.geometry.specs.Sizes.{row_words}
 use Rattle.geometry.proofs.Facts.{facts}
-use Rattle.geometry.proofs.Bounds.{words-few}
-use Rattle.search.proofs.Seeking.{joined-in-sets}
-use Rattle.collect.proofs.FalseSets.{word-false, word-passed, no_word}
+use Rattle.places.proofs.Walking.{walk-items}
+use Rattle.calls.specs.Answers.{tables_in}
+use Rattle.search.proofs.Seeking.{kind-other}
+use Rattle.collect.proofs.FalseSets.{none-false, false_in, by-words}
 use Rattle.collect.proofs.any_is_false.Goals as goal
 
-pub word_is_false-requires : goal.word_is_false-requires
-word_is_false-requires c = (search rules, search rules, rw c.joined-word.ensures (joined-in-sets _ _ _ _))
+pub any-requires-clause-callable : goal.any-requires-clause-callable
+any-requires-clause-callable c =
+    let t = c.args.tables.now in
+    each-item (row_words t.layout.geometry) (walk-items _ _ _ _ _ (c.all.ensures.0, c.all.ensures.1 ∙ t.lent.sized.same-words))
+    (λ x q r. search rules) (λ x h. search (rules, h))
 
-pub returns-then-word_is_false : goal.returns-then-word_is_false
-returns-then-word_is_false c =
-    let z = c.requires.sized in
-    word-false _ _ _ _ _ _ _ c.joined-word.ensures c.word_is_false.ensures (facts _ z.is-valid)
-    (tested-below c.is_within.ensures z.same-words c.loop-g-test.true)
-    c.if-word_is_false.true
+pub returns-then-eq : goal.returns-then-eq
+returns-then-eq c =
+    let t = c.args.tables.now in
+    let g = t.layout.geometry in
+    any-of-items (row_words g) (walk-items _ _ _ _ _ (c.all.ensures.0, c.all.ensures.1 ∙ t.lent.sized.same-words)) (false_in g (tables_in t) c.args.key)
+    _ _ _ c.any.ensures.ran (λ x b q k. search (rules, tests))
+    ∙ sym (by-words g (tables_in t) c.args.key (facts g t.lent.sized.is-valid))
 
-pub next-j-requires : goal.next-j-requires
-next-j-requires c =
-    let z = c.requires.sized in
-    omega (arith, tested-below c.is_within.ensures z.same-words c.loop-g-test.true, words-few _ (facts _ z.is-valid))
-
-pub loop-g-preserved : goal.loop-g-preserved
-loop-g-preserved c =
-    word-passed _ _ _ _ _ _ _ c.joined-word.ensures c.word_is_false.ensures _ c.loop-g.invariant c.if-word_is_false.false c.next-j.ensures
-
-pub returns : goal.returns
-returns c =
-    let z = c.requires.sized in
-    no_word _ _ _ _ (facts _ z.is-valid) _ (tested-past c.is_within.ensures z.same-words c.loop-g-test.false) c.loop-g.invariant
+pub returns-else-eq : goal.returns-else-eq
+returns-else-eq c =
+    let t = c.args.tables.now in
+    c.if-eq.false ∙ sym (none-false t.layout.geometry (tables_in t) c.args.key (kind-other t.layout (search rules)))

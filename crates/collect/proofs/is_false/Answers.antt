@@ -1,38 +1,36 @@
--- `collect::is_false` meets its contract. The invariant: no entry before `at` is the key.
-use mathlib.Core.List.{[]}
-use native.Mathlib.Omega.{arith}
-use Rattle.words.proofs.Rules.{tested-below, tested-past}
+-- `collect::is_false` meets its contract: `any` goes through the offsets of the set, whose addresses are in the store.
+use Rattle.std.proofs.Common.{ℕ, ◌<◌, ◌≡◌, sym, ap, ◌∙◌, arith, rules, length}
+use mathlib.Core.Bool.{not}
+use borrow.Author.Tests.{tests}
+use Rattle.words.proofs.Chains.{any-of-items, each-item}
+use Rattle.geometry.specs.Sizes.{sets, address_of, set_length}
 use Rattle.geometry.proofs.Facts.{facts}
-use Rattle.geometry.proofs.Places.{length_most, address-lt}
-use Rattle.calls.specs.Answers.{tables}
-use Rattle.search.proofs.Seeking.{entry-equal, entry-passed}
-use Rattle.collect.proofs.FalseSets.{other-kind, holds-key, no-entry}
+use Rattle.geometry.proofs.Places.{address-lt}
+use Rattle.checks.specs.declared.lent.Tables.{Tables}
+use Rattle.places.proofs.Walking.{walk-items}
+use Rattle.reference.proofs.Searched.{equal_at}
+use Rattle.calls.specs.Answers.{tables_in}
+use Rattle.search.proofs.Seeking.{kind-segmented}
+use Rattle.collect.proofs.FalseSets.{set-false}
 use Rattle.collect.proofs.is_false.Goals as goal
 
-pub returns-then-g-ne-SEGMENTED : goal.returns-then-g-ne-SEGMENTED
-returns-then-g-ne-SEGMENTED c = other-kind _ _ _ _ c.if-g-ne-SEGMENTED.true
+-- the entry of a set at an offset is in the store
+stored : (t : Tables) (s o : ℕ) → s < sets t.layout.geometry → o < set_length t.layout.geometry s → (a : ℕ) → a ≡ address_of t.layout.geometry s o
+    → a < length t.store.now
+stored t s o set offset a e =
+    omega (arith, t.lent.entries, address-lt t.layout.geometry (facts t.layout.geometry t.lent.sized.is-valid) s o set offset)
 
-pub word-requires : goal.word-requires
-word-requires c =
-    let within = tested-below c.is_within.ensures c.length-length.ensures c.loop-g-test.true in
-    omega (arith, c.address.ensures, c.requires.1, address-lt _ (facts _ c.requires.0) _ _ c.requires.2 within)
-
-pub returns-then-word-key : goal.returns-then-word-key
-returns-then-word-key c =
-    let x = c.args in
-    holds-key _ _ _ _ _ (tested-below c.is_within.ensures c.length-length.ensures c.loop-g-test.true)
-    (entry-equal x.g (tables x.store.now []) _ _ _ _ _ c.address.ensures c.word.ensures c.if-word-key.true)
-
-pub next-at-requires : goal.next-at-requires
-next-at-requires c =
-    let within = tested-below c.is_within.ensures c.length-length.ensures c.loop-g-test.true in
-    omega (arith, within, length_most _ (facts _ c.requires.0) c.args.set.0)
-
-pub loop-g-preserved : goal.loop-g-preserved
-loop-g-preserved c =
-    let x = c.args in
-    entry-passed x.g (tables x.store.now []) _ _ _ _ _ c.address.ensures c.word.ensures _ c.loop-g.invariant c.if-word-key.false c.next-at.ensures
+pub any-requires-clause-callable : goal.any-requires-clause-callable
+any-requires-clause-callable c =
+    let t = c.args.tables.now in
+    each-item (set_length t.layout.geometry c.args.set.0) (walk-items _ _ _ _ _ (c.offsets.ensures.0, c.offsets.ensures.1 ∙ c.length.ensures))
+    (λ x q r. search rules) (λ x h. grind (arith, stored t c.args.set.0 _ c.requires.1 h))
 
 pub returns : goal.returns
 returns c =
-    no-entry _ _ _ _ c.if-g-ne-SEGMENTED.false _ (tested-past c.is_within.ensures c.length-length.ensures c.loop-g-test.false) c.loop-g.invariant
+    let t = c.args.tables.now in
+    let equal = equal_at t.layout.geometry (tables_in t) c.args.key c.args.set.0 in
+    ap not
+    (any-of-items (set_length t.layout.geometry c.args.set.0) (walk-items _ _ _ _ _ (c.offsets.ensures.0, c.offsets.ensures.1 ∙ c.length.ensures)) equal _ _ _ c.any.ensures.ran
+    (λ x b q k. search (rules, tests)))
+    ∙ sym (set-false t.layout.geometry (tables_in t) c.args.key (kind-segmented t.layout c.requires.0) c.args.set.0)

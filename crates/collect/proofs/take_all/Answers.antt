@@ -1,37 +1,37 @@
--- `collect::take_all` meets its contract. The invariant: of the sets of the row words before word j, what is taken is
--- marked.
-use mathlib.Core.Path.{◌∙◌}
-use native.Mathlib.Omega.{arith}
-use borrow.Author.Rules.{rules}
-use Rattle.words.proofs.Rules.{tested-below, tested-past}
+-- `collect::take_all` meets its contract, by its invariant.
+use Rattle.std.proofs.Common.{◌≡◌, ◌∙◌, arith}
 use Rattle.geometry.proofs.Facts.{facts}
-use Rattle.geometry.proofs.Bounds.{words-few}
-use Rattle.search.proofs.Seeking.{joined-in-sets}
-use Rattle.collect.proofs.Marking.{all_start, all-step, all_end}
+use Rattle.calls.specs.Answers.{tables_in}
+use Rattle.collect.specs.Marks.{marked}
+use Rattle.collect.proofs.Marking.{taken_below, all_start, all-step, zero-step, all_end}
 use Rattle.collect.proofs.take_all.Goals as goal
+use Rattle.collect.proofs.take_all.Goals.{In-Some}
 
-pub loop-g-init : goal.loop-g-init
-loop-g-init c = rw c.first-j.ensures (all_start _ _ _ _ _)
+pub loop-j-init : goal.loop-j-init
+loop-j-init c =
+    let items = c.all-j-items.ensures in
+    rw c.into_iter-j-iterator.ensures.into_iter_gives
+    (tt, tt, items.1 ∙ c.args.tables.now.lent.sized.same-words, all_start _ _ _ _ _ items.0)
 
 pub take_word-requires : goal.take_word-requires
-take_word-requires c = (
-  search rules,
-  search rules,
-  c.loop-g.auto.matches ∙ c.requires.1,
-  rw c.joined-word.ensures (joined-in-sets _ _ _ _),
-)
+take_word-requires c = (c.loop-j.auto.matches ∙ c.requires, omega (arith, c.in-Some.ensures.steps), c.joined-word.ensures c.args.tables.now.store.now)
 
-pub next-j-requires : goal.next-j-requires
-next-j-requires c =
-    let z = c.requires.0.sized in
-    omega (arith, tested-below c.is_within.ensures z.same-words c.loop-g-test.true, words-few _ (facts _ z.is-valid))
+before : (c : In-Some) → let t = c.args.tables.now in
+    c.loop-j.matches ≡ marked (taken_below t.layout.geometry (tables_in t) c.args.key c.in-Some.j.0) c.args.matches.now
+before c = rw c.in-Some.ensures.steps.1 c.loop-j.invariant.3
 
-pub loop-g-preserved : goal.loop-g-preserved
-loop-g-preserved c =
-    rw c.next-j.ensures (all-step _ _ _ _ _ _ _ c.joined-word.ensures _ _ c.loop-g.invariant c.take_word.ensures)
+pub loop-j-preserved-then-word-ne0 : goal.loop-j-preserved-then-word-ne0
+loop-j-preserved-then-word-ne0 c =
+    let step = c.in-Some.ensures.steps in
+    let at = before (goal.at.loop-j-preserved-then-word-ne0 c).In-Some in
+    rw (step.2, ← step.1) (tt, tt, step.3 ∙ c.loop-j.invariant.2, all-step _ _ _ _ _ _ (c.joined-word.ensures c.args.tables.now.store.now) _ at _ c.take_word.ensures)
+
+pub loop-j-preserved : goal.loop-j-preserved
+loop-j-preserved c =
+    let step = c.in-Some.ensures.steps in
+    let at = before (goal.at.loop-j-preserved c).In-Some in
+    rw (step.2, ← step.1) (tt, tt, step.3 ∙ c.loop-j.invariant.2, zero-step _ _ _ _ _ _ (c.joined-word.ensures c.args.tables.now.store.now) _ at c.if-word-ne0.false)
 
 pub returns : goal.returns
 returns c =
-    let z = c.requires.0.sized in
-    c.loop-g.invariant
-    ∙ all_end _ _ _ _ _ (facts _ z.is-valid) _ (tested-past c.is_within.ensures z.same-words c.loop-g-test.false)
+    c.loop-j.invariant.3 ∙ all_end _ _ _ _ (facts _ c.args.tables.now.lent.sized.is-valid) _ (omega (arith, c.in-None.ensures.steps))

@@ -1,14 +1,15 @@
--- Of the sets of the row words before word j, what is taken is marked.
-use Prim.Native.Nat.{◌-◌}
-use mathlib.Core.Path.{◌≡◌}
+-- Of the sets of the row words before the next one, what is taken is marked.
+use Rattle.std.proofs.Common.{◌≡◌}
 use Rattle.geometry.specs.Sizes.{row_words}
-use Rattle.calls.specs.Answers.{tables}
+use Rattle.calls.specs.Answers.{tables_in}
 use Rattle.collect.specs.Marks.{marked}
 use Rattle.collect.proofs.Marking.{taken_below}
 use Rattle.collect.proofs.take_all.Given as goal
 
-abbrev pub invariant-loop-g : goal.invariant-loop-g
-invariant-loop-g l = l.matches ≡ marked (taken_below l.g (tables l.store l.indicators) l.key l.j.0) l.initial.matches
-
-abbrev pub decreases-loop-g : goal.decreases-loop-g
-decreases-loop-g l = row_words l.g - l.j.0
+abbrev pub invariant-loop-j : goal.invariant-loop-j
+invariant-loop-j l =
+    let g = l.tables.layout.geometry in
+    (goal.iterator-loop-j).can_next l.j-iterator
+    × (goal.iterator-loop-j).is_finite l.j-iterator
+    × (l.j-iterator.end ≡ row_words g)
+    × (l.matches ≡ marked (taken_below g (tables_in l.tables) l.key l.j-iterator.next) l.initial.matches)

@@ -1,68 +1,79 @@
--- `collect::take_set` meets its contract. The invariant: the addresses of the set before the offset are marked.
-use Prim.Native.Nat.{◌/◌, ◌<◌}
-use mathlib.Core.Path.{◌∙◌}
-use mathlib.Core.Bool.{true, false}
-use mathlib.Core.List.{[]}
-use native.Mathlib.Omega.{arith}
-use lib.ListN.{length}
+-- `collect::take_set` meets its contract: the bit of an address is set, where the kind is another or its entry the key, or else is not.
+use Rattle.std.proofs.Common.{Bool, cond, ◌%◌, ◌/◌, ◌<◌, ◌≡◌, ◌∙◌, true, false, length, arith, rules}
 use borrow.Author.Tests.{eq-eqb, ne_eqb}
-use Rattle.words.proofs.Rules.{tested-below, tested-past}
-use Rattle.geometry.specs.Sizes.{set_length}
+use Rattle.words.specs.Bits.{set_bit, change_bit}
 use Rattle.geometry.proofs.Facts.{facts}
-use Rattle.geometry.proofs.Places.{length_most, address-lt, matches-most}
-use Rattle.calls.specs.Answers.{tables}
-use Rattle.collect.proofs.Marking.{chosen-all, chosen-equal, set-start, set-step, set-end}
+use Rattle.geometry.proofs.Places.{address-lt, matches-most}
+use Rattle.reference.specs.Search.{chosen}
+use Rattle.calls.specs.Answers.{tables_in}
+use Rattle.search.proofs.Seeking.{kind-segmented, kind-other}
+use Rattle.collect.specs.Marks.{marked}
+use Rattle.collect.proofs.Marking.{taken_before, chosen-all, chosen-equal, set-start, set-step, set-end}
 use Rattle.collect.proofs.take_set.Goals as goal
-use Rattle.collect.proofs.take_set.Goals.{then-g-ne-SEGMENTED, then-g-ne-SEGMENTED-via-then-g-ne-SEGMENTED, then-g-ne-SEGMENTED-via-else-g-ne-SEGMENTED+then-word-key, else-g-ne-SEGMENTED+else-word-key}
+use Rattle.collect.proofs.take_set.Goals.{After-address-address, then-ne-via-then-ne, then-ne-via-else-ne+then-word-key}
 
-pub loop-g-init : goal.loop-g-init
-loop-g-init c = rw c.first-at.ensures (set-start _ _ _ _ _)
+pub loop-at-init : goal.loop-at-init
+loop-at-init c =
+    rw c.into_iter-at-iterator.ensures.into_iter_gives
+    (tt, tt, c.offsets-at-items.ensures.1 ∙ c.length.ensures, set-start _ _ _ _ _ _ c.offsets-at-items.ensures.0)
+
+-- the address is one
+below : (c : After-address-address) → c.address-address.result.0 < c.args.tables.now.layout.geometry.depth
+below c =
+    let f = facts _ c.args.tables.now.lent.sized.is-valid in
+    omega (arith, address-lt _ f _ c.in-Some.at.0 c.requires.1 (omega (arith, c.in-Some.ensures.steps)), c.address-address.ensures)
 
 pub word-requires : goal.word-requires
-word-requires c =
-    let within = tested-below c.is_within.ensures c.length-length.ensures c.loop-g-test.true in
-    let stored = address-lt _ (facts _ c.requires.0) _ _ c.requires.3 within in
-    omega (arith, stored, c.address-address.ensures, c.requires.1)
+word-requires c = omega (arith, below (goal.at.word-requires c).After-address-address, c.args.tables.now.lent.entries)
+
+marks : (c : After-address-address) → c.address-address.result.0 / 64 < length c.loop-at.matches
+marks c =
+    omega (arith, below c, matches-most _ (facts _ c.args.tables.now.lent.sized.is-valid), c.loop-at.auto.matches, c.requires.0)
 
 pub mark-requires : goal.mark-requires
-mark-requires c =
-    let f = facts _ c.requires.0 in
-    let within = tested-below c.is_within.ensures c.length-length.ensures c.loop-g-test.true in
-    let stored = address-lt _ f _ _ c.requires.3 within in
-    omega (arith, stored, c.address-address.ensures, matches-most _ f, c.loop-g.auto.matches, c.requires.2)
+mark-requires c = marks (goal.at.mark-requires c).After-address-address
 
-pub next-at-requires : goal.next-at-requires
-next-at-requires c =
-    let within = tested-below c.is_within.ensures c.length-length.ensures c.loop-g-test.true in
-    omega (arith, within, length_most _ (facts _ c.requires.0) c.args.set.0)
+-- a turn, where a test says whether the address is taken
+turn : (c : After-address-address) (test : Bool) → let t = c.args.tables.now in let a = c.address-address.result.0 in
+    chosen t.layout.geometry (tables_in t) c.args.key a ≡ test
+    → cond test (change_bit set_bit c.loop-at.matches (a / 64) (a % 64)) c.loop-at.matches
+    ≡ marked (taken_before t.layout.geometry (tables_in t) c.args.key c.args.set.0 c.next.new.self.next) c.args.matches.now
+turn c test is =
+    let t = c.args.tables.now in
+    let step = c.in-Some.ensures.steps in
+    let at = rw step.1 at c.address-address.ensures in
+    rw step.2
+    (set-step t.layout.geometry (tables_in t) c.args.key c.args.set.0 _ (facts _ t.lent.sized.is-valid) _ _ at (omega arith) _ (marks c) c.loop-at.invariant.3
+    test is)
 
--- the bit is set, where the kind is another or the entry equal, or else is not
-pub loop-g-preserved : goal.loop-g-preserved
-loop-g-preserved c =
-    let x = c.args in
-    let t = tables x.store.now [] in
-    let f = facts x.g c.requires.0 in
-    let within : c.loop-g.at.0 < set_length x.g x.set.0 = tested-below c.is_within.ensures c.length-length.ensures c.loop-g-test.true in
-    let stored : c.address-address.result.0 < x.g.depth = omega (arith, c.address-address.ensures, address-lt _ f _ _ c.requires.3 within) in
-    let marks : c.address-address.result.0 / 64 < length c.loop-g.matches = omega (arith, stored, matches-most _ f, c.loop-g.auto.matches, c.requires.2) in
-    let step = set-step x.g t x.key _ _ f _ _ c.address-address.ensures within _ marks c.loop-g.invariant in
-    let other = chosen-all x.g t x.key _ stored in
-    let equal = chosen-equal x.g t x.key _ stored in
-    rw c.next-at.ensures
-    (elim c.if-g-ne-SEGMENTED.branch [
-      | then-g-ne-SEGMENTED w ↦
-          w.matches-is ∙ w.mark.ensures
-          ∙ step true
-          (elim w.then-g-ne-SEGMENTED.branch [
-            | then-g-ne-SEGMENTED-via-then-g-ne-SEGMENTED v ↦ other v.if-g-ne-SEGMENTED.true
-            | then-g-ne-SEGMENTED-via-else-g-ne-SEGMENTED+then-word-key v ↦
-                equal _ v.word.ensures v.if-g-ne-SEGMENTED.false ∙ eq-eqb _ _ v.if-word-key.true
-          ])
-      | else-g-ne-SEGMENTED+else-word-key w ↦
-          w.matches-is ∙ step false (equal _ w.word.ensures w.if-g-ne-SEGMENTED.false ∙ ne_eqb _ _ w.if-word-key.false)
-    ])
+pub loop-at-preserved-in-loop-at : goal.loop-at-preserved-in-loop-at
+loop-at-preserved-in-loop-at c =
+    let t = c.args.tables.now in
+    let at = (goal.at.loop-at-preserved-in-loop-at c).After-address-address in
+    let all = chosen-all t.layout.geometry (tables_in t) c.args.key _ (below at) in
+    let equal = chosen-equal t.layout.geometry (tables_in t) c.args.key _ (below at) in
+    rw c.mark.ensures (
+      tt,
+      tt,
+      c.in-Some.ensures.steps.3 ∙ c.loop-at.invariant.2,
+      turn at true
+          (elim c.then-ne.branch [
+            | then-ne-via-then-ne w ↦ all (kind-other t.layout (search rules))
+            | then-ne-via-else-ne+then-word-key w ↦ equal (kind-segmented t.layout (search rules)) _ w.word.ensures ∙ eq-eqb _ _ w.if-word-key.true
+          ]),
+    )
+
+pub loop-at-preserved : goal.loop-at-preserved
+loop-at-preserved c =
+    let t = c.args.tables.now in
+    let at = (goal.at.loop-at-preserved c).After-address-address in
+    let equal = chosen-equal t.layout.geometry (tables_in t) c.args.key _ (below at) in (
+      tt,
+      tt,
+      c.in-Some.ensures.steps.3 ∙ c.loop-at.invariant.2,
+      turn at false (equal (kind-segmented t.layout (search rules)) _ c.word.ensures ∙ ne_eqb _ _ c.if-word-key.false),
+    )
 
 pub returns : goal.returns
 returns c =
-    c.loop-g.invariant
-    ∙ set-end _ _ _ _ _ (facts _ c.requires.0) _ (tested-past c.is_within.ensures c.length-length.ensures c.loop-g-test.false)
+    c.loop-at.invariant.3 ∙ set-end _ _ _ _ _ (facts _ c.args.tables.now.lent.sized.is-valid) _ (omega (arith, c.in-None.ensures.steps))

@@ -1,32 +1,37 @@
--- `collect::take_word` meets its contract. The invariant: the sets of the bits that are left, marked in what the match
--- word has become, give what all sets of the word marked in it at first give.
-use mathlib.Core.Path.{◌∙◌}
-use native.Mathlib.Omega.{arith}
-use borrow.Author.Rules.{rules}
-use Rattle.collect.proofs.Walk.{word-few, turn}
+-- `collect::take_word` meets its contract, by its invariant; the walk over the sets gives those of the geometry.
+use Rattle.std.proofs.Common.{refl, ◌∙◌, arith}
+use Rattle.geometry.proofs.Facts.{facts}
+use Rattle.geometry.proofs.Bounds.{words-few}
+use Rattle.calls.specs.Answers.{tables_in}
+use Rattle.collect.proofs.Walk.{Turn, all-left, turn}
 use Rattle.collect.proofs.Marking.{word-step, word_end}
 use Rattle.collect.proofs.take_word.Goals as goal
+use Rattle.collect.proofs.take_word.Goals.{In-Some}
 
-pub lowest-set-requires : goal.lowest-set-requires
-lowest-set-requires c = word-few _ _ _ c.loop-rest.invariant.0 c.loop-rest-test.true c.requires.0
+pub sets-set-items-requires : goal.sets-set-items-requires
+sets-set-items-requires c = omega (arith, c.requires, words-few _ (facts _ c.args.tables.now.lent.sized.is-valid))
+
+pub loop-set-init : goal.loop-set-init
+loop-set-init c =
+    let t = c.args.tables.now in
+    let items = c.sets-set-items.ensures in
+    rw (c.into_iter-set-iterator.ensures.into_iter_gives, items.0)
+    (tt, tt, refl, items.1, all-left t.layout.geometry (tables_in t) c.args.key c.args.j.0 c.requires.2)
+
+turned : (c : In-Some) → Turn c.args.tables.now.layout.geometry c.args.j.0 c.loop-set.set-iterator.rest c.in-Some.set.0
+turned c =
+    let step = c.in-Some.ensures.steps in
+    turn _ _ _ c.loop-set.invariant.4 step.0 _ (rw c.loop-set.invariant.3 at step.1)
 
 pub take_set-requires : goal.take_set-requires
-take_set-requires c = (
-  search rules,
-  search rules,
-  c.loop-rest.auto.matches ∙ c.requires.2,
-  (turn _ _ _ c.loop-rest.invariant.0 c.loop-rest-test.true _ c.lowest-set.ensures).set-lt,
-)
+take_set-requires c = (c.loop-set.auto.matches ∙ c.requires.0, (turned (goal.at.take_set-requires c).In-Some).set-lt)
 
-pub loop-rest-preserved : goal.loop-rest-preserved
-loop-rest-preserved c =
-    let t = turn _ _ _ c.loop-rest.invariant.0 c.loop-rest-test.true _ c.lowest-set.ensures in
-    rw c.without-rest.ensures
-    (t.after, word-step _ _ _ _ _ _ _ t.here (omega arith) t.whole _ _ c.take_set.ensures ∙ c.loop-rest.invariant.1)
-
-pub loop-rest-smaller : goal.loop-rest-smaller
-loop-rest-smaller c =
-    rw c.without-rest.ensures (turn _ _ _ c.loop-rest.invariant.0 c.loop-rest-test.true _ c.lowest-set.ensures).less
+pub loop-set-preserved : goal.loop-set-preserved
+loop-set-preserved c =
+    let step = c.in-Some.ensures.steps in
+    let t = turned (goal.at.loop-set-preserved c).In-Some in
+    rw step.2
+    (tt, tt, word-step _ _ _ _ _ _ _ t.here (omega arith) t.whole _ _ c.take_set.ensures ∙ c.loop-set.invariant.2, step.3 ∙ c.loop-set.invariant.3, t.after)
 
 pub returns : goal.returns
-returns c = word_end _ _ _ _ _ _ c.loop-rest-test.false _ _ c.loop-rest.invariant.1
+returns c = word_end _ _ _ _ _ _ c.in-None.ensures.steps.0 _ _ c.loop-set.invariant.2

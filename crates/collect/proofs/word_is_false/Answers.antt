@@ -1,33 +1,26 @@
--- `collect::word_is_false` meets its contract. The invariant: only bits of sets are left, and one of them belongs to
--- a false set exactly where one of `word` does.
-use mathlib.Core.Path.{◌∙◌}
-use native.Mathlib.Omega.{arith}
-use borrow.Author.Rules.{rules}
-use Rattle.collect.proofs.Walk.{word-few, turn}
-use Rattle.collect.proofs.FalseSets.{bit-false, bit-passed, no-bit}
+-- `collect::word_is_false` meets its contract: `any` goes through the sets of the word, which are the geometry's.
+use Rattle.std.proofs.Common.{◌∙◌, arith, rules}
+use borrow.Author.Tests.{tests}
+use Rattle.geometry.proofs.Facts.{facts}
+use Rattle.geometry.proofs.Bounds.{words-few}
+use Rattle.calls.specs.Answers.{tables_in}
+use Rattle.collect.proofs.Walk.{all-left, each-set, any-of-sets}
+use Rattle.collect.proofs.FalseSets.{set_is_false}
 use Rattle.collect.proofs.word_is_false.Goals as goal
 
-pub lowest-set-requires : goal.lowest-set-requires
-lowest-set-requires c = word-few _ _ _ c.loop-rest.invariant.0 c.loop-rest-test.true c.requires.0
+pub sets-requires : goal.sets-requires
+sets-requires c = omega (arith, words-few _ (facts _ c.args.tables.now.lent.sized.is-valid))
 
-pub is_false-requires : goal.is_false-requires
-is_false-requires c =
-    (search rules, search rules, (turn _ _ _ c.loop-rest.invariant.0 c.loop-rest-test.true _ c.lowest-set.ensures).set-lt)
-
-pub returns-then-is_false : goal.returns-then-is_false
-returns-then-is_false c =
-    let t = turn _ _ _ c.loop-rest.invariant.0 c.loop-rest-test.true _ c.lowest-set.ensures in
-    bit-false _ _ _ _ _ _ _ _ (omega arith) t.whole c.is_false.ensures t.here c.if-is_false.true ∙ c.loop-rest.invariant.1
-
-pub loop-rest-preserved : goal.loop-rest-preserved
-loop-rest-preserved c =
-    let t = turn _ _ _ c.loop-rest.invariant.0 c.loop-rest-test.true _ c.lowest-set.ensures in
-    rw c.without-rest.ensures
-    (t.after, bit-passed _ _ _ _ _ _ _ _ (omega arith) t.whole c.is_false.ensures c.if-is_false.false ∙ c.loop-rest.invariant.1)
-
-pub loop-rest-smaller : goal.loop-rest-smaller
-loop-rest-smaller c =
-    rw c.without-rest.ensures (turn _ _ _ c.loop-rest.invariant.0 c.loop-rest-test.true _ c.lowest-set.ensures).less
+pub any-requires-clause-callable : goal.any-requires-clause-callable
+any-requires-clause-callable c =
+    let t = c.args.tables.now in
+    each-set _ _ _ t.layout.geometry c.args.j.0 (λ x q r. search rules) (λ x h. search (rules, h, c.requires.0)) _ c.sets.ensures.1
+    (all-left _ (tables_in t) c.args.key _ (c.sets.ensures.0 ∙ c.joined.ensures t.store.now))
 
 pub returns : goal.returns
-returns c = no-bit _ _ _ _ _ c.loop-rest-test.false ∙ c.loop-rest.invariant.1
+returns c =
+    let t = c.args.tables.now in
+    let g = t.layout.geometry in
+    any-of-sets _ _ _ g c.args.j.0 (set_is_false g (tables_in t) c.args.key) _ _ _ (λ x b q k. search (rules, tests)) _ c.sets.ensures.1
+    (all-left _ (tables_in t) c.args.key _ (c.sets.ensures.0 ∙ c.joined.ensures t.store.now)) c.any.ensures.ran
+    ∙ rw (c.sets.ensures.0, c.joined.ensures t.store.now)

@@ -6,17 +6,17 @@ use Rattle.commands.proofs.run_command.Goals as goal
 
 pub put_answer-requires : goal.put_answer-requires
 put_answer-requires c =
-    rw (asked _ _ _ _ _ _ _ _ _ c.in-Asks.is c.decode-decoded.ensures c.perform-answer.ensures) at c.requires
+    rw (asked _ _ _ _ _ _ _ _ _ c.in-Some.is c.decode.ensures c.perform-answer.ensures) at c.requires
 
 pub put_refusal-requires : goal.put_refusal-requires
-put_refusal-requires c = rw (unasked _ _ _ _ _ c.in-Nothing.is c.decode-decoded.ensures) at c.requires
+put_refusal-requires c = rw (unasked _ _ _ _ _ c.in-None.is c.decode.ensures) at c.requires
 
-pub returns-in-Asks : goal.returns-in-Asks
-returns-in-Asks c =
-    rw (asked _ _ _ _ _ _ _ _ _ c.in-Asks.is c.decode-decoded.ensures c.perform-answer.ensures)
+pub returns-in-Some : goal.returns-in-Some
+returns-in-Some c =
+    rw (asked _ _ _ _ _ _ _ _ _ c.in-Some.is c.decode.ensures c.perform-answer.ensures)
     (record { line = c.put_answer.ensures; tables_after = refl; matches-after = refl })
 
-pub returns-in-Nothing : goal.returns-in-Nothing
-returns-in-Nothing c =
-    rw (unasked _ _ _ _ _ c.in-Nothing.is c.decode-decoded.ensures)
+pub returns-in-None : goal.returns-in-None
+returns-in-None c =
+    rw (unasked _ _ _ _ _ c.in-None.is c.decode.ensures)
     (record { line = c.put_refusal.ensures; tables_after = refl; matches-after = refl })

@@ -1,5 +1,5 @@
 -- By the turns of Running, one for each command; the tables keep their lengths.
-use Prim.Native.Nat.{◌-◌}
+use Prim.Native.Nat.{◌+◌, ◌*◌}
 use mathlib.Core.Path.{◌≡◌}
 use lib.ListN.{length}
 use Rattle.calls.specs.Answers.{tables}
@@ -8,8 +8,5 @@ use Rattle.job.proofs.run_job.Given as goal
 
 abbrev pub invariant-loop-k : goal.invariant-loop-k
 invariant-loop-k l =
-    Progress l.file l.initial.matches l.initial.out l.initial.at (tables l.store l.indicators) l.matches l.out l.at l.from l.k
+    Progress l.file l.initial.matches l.fn.page (tables l.store l.indicators) l.matches l.page (l.fn.header.offset + 12 * l.k) l.k
     × ((length l.store ≡ length l.initial.store) × (length l.indicators ≡ length l.initial.indicators))
-
-abbrev pub decreases-loop-k : goal.decreases-loop-k
-decreases-loop-k l = l.header.commands - l.k

@@ -8,7 +8,7 @@ use Rattle.sizes.specs.declared.Sizes.{Sizes}
 use Rattle.figures.specs.Figures.{Bytes}
 use Rattle.jobfile.specs.declared.Header.{Header}
 use Rattle.job.specs.Left.{Ample}
-use Rattle.job.proofs.Lending.{stop-room, stop-ran, Runnable, runnable, entries-within, words-within, matches-within, ready, job-ran}
+use Rattle.job.proofs.Lending.{stop-room, stop-works, Runnable, runnable, entries-within, words-within, matches-within, ready, job-works}
 use Rattle.job.proofs.run_within.Goals as goal
 
 -- how long the parts are that a job is run on
@@ -26,43 +26,43 @@ module _ {file : Bytes} {h : Header} {z : Sizes} (known : Runnable file h z) whe
   match-words matches ample = length-take-le _ _ (matches-within known ample)
 
 pub put_stop-requires : goal.put_stop-requires
-put_stop-requires c = rw c.number.ensures (stop-room _ _ _ c.in-Stopped.is c.open-opened.ensures c.requires)
+put_stop-requires c = rw c.from.ensures (stop-room _ _ _ c.in-Err.is c.open.ensures c.requires)
 
-pub returns-in-Stopped : goal.returns-in-Stopped
-returns-in-Stopped c =
-    stop-ran _ _ _ c.in-Stopped.is c.open-opened.ensures _ _ _ (rw c.number.ensures at c.put_stop.ensures)
+pub returns-in-Err : goal.returns-in-Err
+returns-in-Err c =
+    stop-works _ _ _ c.in-Err.is c.open.ensures _ _ _ (rw c.from.ensures at c.put_stop.ensures)
 
 pub slice_bounds-run_job-end : goal.slice_bounds-run_job-end
-slice_bounds-run_job-end c = entries-within (runnable _ _ _ _ c.in-Job.is c.open-opened.ensures) c.requires
+slice_bounds-run_job-end c = entries-within (runnable _ _ _ c.in-Ok.is c.open.ensures) c.requires
 
-pub slice_bounds-run_job-end-in-Job : goal.slice_bounds-run_job-end-in-Job
-slice_bounds-run_job-end-in-Job c = sym (entries (runnable _ _ _ _ c.in-Job.is c.open-opened.ensures) c.args.store.now c.requires)
+pub slice_bounds-run_job-end-in-Ok : goal.slice_bounds-run_job-end-in-Ok
+slice_bounds-run_job-end-in-Ok c = sym (entries (runnable _ _ _ c.in-Ok.is c.open.ensures) c.args.store.now c.requires)
 
-pub slice_bounds-run_job-end-in-Job-2 : goal.slice_bounds-run_job-end-in-Job-2
-slice_bounds-run_job-end-in-Job-2 c = words-within (runnable _ _ _ _ c.in-Job.is c.open-opened.ensures) c.requires
+pub slice_bounds-run_job-end-in-Ok-2 : goal.slice_bounds-run_job-end-in-Ok-2
+slice_bounds-run_job-end-in-Ok-2 c = words-within (runnable _ _ _ c.in-Ok.is c.open.ensures) c.requires
 
-pub slice_bounds-run_job-end-in-Job-3 : goal.slice_bounds-run_job-end-in-Job-3
-slice_bounds-run_job-end-in-Job-3 c = sym (words (runnable _ _ _ _ c.in-Job.is c.open-opened.ensures) c.args.indicators.now c.requires)
+pub slice_bounds-run_job-end-in-Ok-3 : goal.slice_bounds-run_job-end-in-Ok-3
+slice_bounds-run_job-end-in-Ok-3 c = sym (words (runnable _ _ _ c.in-Ok.is c.open.ensures) c.args.indicators.now c.requires)
 
-pub slice_bounds-run_job-end-in-Job-4 : goal.slice_bounds-run_job-end-in-Job-4
-slice_bounds-run_job-end-in-Job-4 c = matches-within (runnable _ _ _ _ c.in-Job.is c.open-opened.ensures) c.requires
+pub slice_bounds-run_job-end-in-Ok-4 : goal.slice_bounds-run_job-end-in-Ok-4
+slice_bounds-run_job-end-in-Ok-4 c = matches-within (runnable _ _ _ c.in-Ok.is c.open.ensures) c.requires
 
-pub slice_bounds-run_job-end-in-Job-5 : goal.slice_bounds-run_job-end-in-Job-5
-slice_bounds-run_job-end-in-Job-5 c =
-    sym (match-words (runnable _ _ _ _ c.in-Job.is c.open-opened.ensures) c.args.matches.now c.requires)
+pub slice_bounds-run_job-end-in-Ok-5 : goal.slice_bounds-run_job-end-in-Ok-5
+slice_bounds-run_job-end-in-Ok-5 c =
+    sym (match-words (runnable _ _ _ c.in-Ok.is c.open.ensures) c.args.matches.now c.requires)
 
 pub run_job-requires : goal.run_job-requires
 run_job-requires c =
-    let known = runnable _ _ _ _ c.in-Job.is c.open-opened.ensures in
+    let known = runnable _ _ _ c.in-Ok.is c.open.ensures in
     let x = c.args in
     rw (entries known x.store.now c.requires, words known x.indicators.now c.requires, match-words known x.matches.now c.requires)
     (ready known c.requires)
 
-pub returns-in-Job : goal.returns-in-Job
-returns-in-Job c =
-    let known = runnable _ _ _ _ c.in-Job.is c.open-opened.ensures in
+pub returns-in-Ok : goal.returns-in-Ok
+returns-in-Ok c =
+    let known = runnable _ _ _ c.in-Ok.is c.open.ensures in
     let x = c.args in
     let kept = c.run_job.auto in
-    job-ran known _ _ _ _ _ _ (kept.store ∙ entries known x.store.now c.requires)
+    job-works known _ _ _ _ _ _ (kept.store ∙ entries known x.store.now c.requires)
     (kept.indicators ∙ words known x.indicators.now c.requires) (kept.matches ∙ match-words known x.matches.now c.requires)
     c.run_job.ensures

@@ -1,7 +1,8 @@
--- `memory::all_match` meets its contract: rows 1, 2 and 4 by the check, then row 6, or the marks on a match word of zeros.
-use Rattle.std.proofs.Common.{ℕ, ◌≡◌, sym, ap, ◌∙◌, false, List, [], ◌∷◌, length, arith}
-use lib.ListN.{length-replicate}
-use Rattle.machines.specs.Refusals.{◌given-when◌}
+-- `memory::all_match` meets its contract: rows 1, 2, 4 and 6 as they are tested, then the marks on a match word of zeros.
+use Rattle.std.proofs.Common.{rules, ℕ, ◌≡◌, ap, ◌∙◌, not, List, [], ◌∷◌, length, eqb, Ok, arith}
+use lib.ListN.{replicate, length-replicate}
+use borrow.Author.Tests.{eqb-true, not-false}
+use Rattle.machines.specs.Refusals.{◌given-when◌, first_refusal}
 use Rattle.geometry.specs.declared.Geometry.{Geometry}
 use Rattle.geometry.specs.Sizes.{match_words}
 use Rattle.geometry.proofs.Facts.{facts}
@@ -10,67 +11,90 @@ use Rattle.reference.specs.Calls.{all_match, lent}
 use Rattle.reference.specs.Refusals.{bad_pattern}
 use Rattle.reference.specs.Tables.{Tables}
 use Rattle.reference.specs.Search.{any_is_false}
-use Rattle.reference.specs.Steps.{own_refusals, refusals}
-use Rattle.checks.specs.declared.Checked.{Checked}
-use Rattle.checks.specs.Checks.{checked_matches, and_pattern}
-use Rattle.checks.proofs.Rows.{Decides}
+use Rattle.reference.specs.Steps.{bad_matches, own_refusals, refusals, outcome}
+use Rattle.sizes.specs.declared.Sizes.{Sizes}
+use Rattle.checks.specs.declared.Refusal.TheVariants.{BadLengths, FalseSet}
+use Rattle.checks.specs.Checks.{checked_tables}
+use Rattle.checks.proofs.Acceptance.{handed-on}
+use Rattle.checks.proofs.Rows.{Reaches, row-stops, row-passes}
 use Rattle.calls.specs.Answers.{tables}
 use Rattle.collect.proofs.Marking.{length_marked}
-use Rattle.memory.proofs.Decided.{LentAs, matches-decide, pattern-decides}
-use Rattle.memory.proofs.Outcomes.{refused-left, rest-left, false_left, matched-left}
+use Rattle.memory.proofs.Decided.{call-stops, call-reaches, pattern-stops, pattern-passes}
+use Rattle.memory.proofs.Outcomes.{refused-left, rest-left, matched-left}
 use Rattle.memory.proofs.all_match.Goals as goal
+use Rattle.memory.proofs.all_match.Goals.{In_ok-tables, In_ok-match_word, In_ok-pattern, In_ok-row}
 
-decided : (g : Geometry) (t : Tables) (key : ℕ) (m : List ℕ) {x y : Checked}
-    → x ≡ checked_matches g (length t.store) (length t.indicators) (length m) → y ≡ and_pattern x key
-    → Decides (refusals g t (all_match key m)) y (6 given-when any_is_false g t key ∷ [])
-    (λ s. (LentAs g t s × (length m ≡ match_words g)) × (bad_pattern g key ≡ false))
-unfolding own_refusals
-decided g t key m tested more = pattern-decides g key (λ z s. s.0.sized) more (matches-decide g t key m tested)
+-- with tables of their lengths row 2 has still to look at the match word
+lengths-passed : (g : Geometry) (t : Tables) (key : ℕ) (m : List ℕ) {s : Sizes} → Ok s ≡ checked_tables g (length t.store) (length t.indicators)
+    → Reaches (refusals g t (all_match key m)) (2 given-when not (eqb (length m) (match_words g)) ∷ 4 given-when bad_pattern g key ∷ 6 given-when any_is_false g t key ∷ [])
+unfolding bad_matches own_refusals
+lengths-passed g t key m e = call-reaches g t (all_match key m) e
 
-pub any_is_false-requires : goal.any_is_false-requires
-any_is_false-requires c =
+pub returns-in_err-tables : goal.returns-in_err-tables
+unfolding lent
+returns-in_err-tables c =
     let x = c.args in
-    let d = decided x.g (tables x.store.now x.indicators.now) x.key x.matches.now c.matches.ensures c.and_pattern-checked.ensures in
-    (d.shown _ c.in-Accepted.is).0.0
+    let why = c.in_err-tables.field-0.0 in
+    refused-left x.g x.store.now x.indicators.now (all_match _ _) _ why _ (handed-on why c.from_residual.result c.from_residual.ensures)
+    (call-stops x.g (tables x.store.now x.indicators.now) (all_match _ _) c.in_err-tables.ensures.given)
 
-pub returns-then-any_is_false : goal.returns-then-any_is_false
-returns-then-any_is_false c =
+pub returns-in_err-match_word : goal.returns-in_err-match_word
+unfolding lent
+returns-in_err-match_word c =
     let x = c.args in
-    let d = decided x.g (tables x.store.now x.indicators.now) x.key x.matches.now c.matches.ensures c.and_pattern-checked.ensures in
-    false_left _ _ _ _ _ (sym c.any_is_false.ensures ∙ c.if-any_is_false.true) ∙ rest-left _ _ _ (all_match _ _) d c.in-Accepted.is
+    let why = c.in_err-match_word.field-0.0 in
+    let known = c.in_ok-tables.ensures in
+    let reached = lengths-passed x.g (tables x.store.now x.indicators.now) x.key x.matches.now known.given in
+    refused-left x.g x.store.now x.indicators.now (all_match _ _) _ why _ (handed-on why _ c.from_residual-in_err-match_word.ensures)
+    (row-stops BadLengths reached (rw known.its_own at c.in_err-match_word.ensures))
 
--- the match word of zeros has its length
-pub take_all-requires : goal.take_all-requires
-take_all-requires c =
+-- then row 4 comes next, and the match word has its length
+matches-passed : (c : In_ok-match_word) → Reaches (refusals c.args.g (tables c.args.store.now c.args.indicators.now) (all_match c.args.key c.args.matches.now))
+    (4 given-when bad_pattern c.args.g c.args.key ∷ 6 given-when any_is_false c.args.g (tables c.args.store.now c.args.indicators.now) c.args.key ∷ [])
+    × (length c.args.matches.now ≡ match_words c.args.g)
+matches-passed c =
     let x = c.args in
-    let d = decided x.g (tables x.store.now x.indicators.now) x.key x.matches.now c.matches.ensures c.and_pattern-checked.ensures in
-    let lengths = (d.shown _ c.in-Accepted.is).0 in
-    (lengths.0, ap length c.zero_all.ensures ∙ length-replicate _ _ ∙ lengths.1)
+    let known = c.in_ok-tables.ensures in
+    let reached = lengths-passed x.g (tables x.store.now x.indicators.now) x.key x.matches.now known.given in
+    let p = row-passes BadLengths reached (rw known.its_own at c.in_ok-match_word.ensures) in
+    (p.0, eqb-true _ _ (not-false _ p.1))
+
+pub returns-in_err-pattern : goal.returns-in_err-pattern
+unfolding lent
+returns-in_err-pattern c =
+    let x = c.args in
+    let why = c.in_err-pattern.field-0.0 in
+    let reached = (matches-passed (goal.at.returns-in_err-pattern c).In_ok-match_word).0 in
+    refused-left x.g x.store.now x.indicators.now (all_match _ _) _ why _ (handed-on why _ c.from_residual-in_err-pattern.ensures)
+    (pattern-stops x.g x.key reached c.in_ok-tables.tables.layout c.in_ok-tables.ensures.its_own c.in_err-pattern.ensures)
+
+pub returns-in_err-row : goal.returns-in_err-row
+unfolding lent
+returns-in_err-row c =
+    let x = c.args in
+    let why = c.in_err-row.field-0.0 in
+    let known = c.in_ok-tables.ensures in
+    let reached = pattern-passes x.g x.key (matches-passed (goal.at.returns-in_err-row c).In_ok-match_word).0 c.in_ok-tables.tables.layout known.its_own c.in_ok-pattern.ensures in
+    let found = rw (known.its_own, known.lends.0, known.lends.1) at c.any_is_false.ensures in
+    refused-left x.g x.store.now x.indicators.now (all_match _ _) _ why _ (handed-on why _ c.from_residual-in_err-row.ensures)
+    (row-stops FalseSet reached (rw found at c.in_err-row.ensures))
 
 pub total_ones-requires : goal.total_ones-requires
 total_ones-requires c =
-    let x = c.args in
-    let d = decided x.g (tables x.store.now x.indicators.now) x.key x.matches.now c.matches.ensures c.and_pattern-checked.ensures in
-    let lengths = (d.shown _ c.in-Accepted.is).0 in
-    let f = facts _ lengths.0.sized.is-valid in
-    omega (
-      arith,
-      matches-least _ f,
-      f.depth-most,
-      ap length c.take_all.ensures ∙ length_marked _ _ ∙ ap length c.zero_all.ensures ∙ length-replicate _ _ ∙ lengths.1,
-    )
+    let zeros : c.fill.new.self ≡ replicate (length c.args.matches.now) 0 = search rules in
+    let long = (matches-passed (goal.at.total_ones-requires c).In_ok-match_word).1 in
+    let f = facts _ (rw c.in_ok-tables.ensures.its_own at c.in_ok-tables.tables.layout.sized.is-valid) in
+    omega (arith, matches-least _ f, f.depth-most, ap length c.take_all.ensures ∙ length_marked _ _ ∙ ap length zeros ∙ length-replicate _ _ ∙ long)
 
-pub returns-else-any_is_false : goal.returns-else-any_is_false
-returns-else-any_is_false c =
+pub returns : goal.returns
+unfolding outcome first_refusal
+returns c =
     let x = c.args in
-    let d = decided x.g (tables x.store.now x.indicators.now) x.key x.matches.now c.matches.ensures c.and_pattern-checked.ensures in
-    matched-left _ _ _ _ _ _ _ _ (sym c.any_is_false.ensures ∙ c.if-any_is_false.false) c.take_all.ensures c.zero_all.ensures
-    (d.shown _ c.in-Accepted.is).0.1 c.total_ones.ensures
-    ∙ rest-left _ _ _ (all_match _ _) d c.in-Accepted.is
-
-pub returns-in-Refused : goal.returns-in-Refused
-unfolding lent
-returns-in-Refused c =
-    let x = c.args in
-    let d = decided x.g (tables x.store.now x.indicators.now) x.key x.matches.now c.matches.ensures c.and_pattern-checked.ensures in
-    refused-left _ _ _ (all_match _ _) d c.in-Refused.is
+    let known = c.in_ok-tables.ensures in
+    let lengths = matches-passed (goal.at.returns c).In_ok-match_word in
+    let reached = pattern-passes x.g x.key lengths.0 c.in_ok-tables.tables.layout known.its_own c.in_ok-pattern.ensures in
+    let found = rw (known.its_own, known.lends.0, known.lends.1) at c.any_is_false.ensures in
+    let zeros : c.fill.new.self ≡ replicate (length x.matches.now) 0 = search rules in
+    matched-left x.g x.store.now x.indicators.now x.matches.now x.key _ _ _ (rw (known.its_own, known.lends.0, known.lends.1) at c.take_all.ensures) zeros
+    lengths.1 c.total_ones.ensures
+    ∙ rest-left x.g x.store.now x.indicators.now (all_match _ _) (row-passes FalseSet reached (rw found at c.in_ok-row.ensures)).0

@@ -1,32 +1,33 @@
 -- `memory::clear` meets its contract: refused by the check, or both tables are filled to their lengths.
-use Rattle.std.proofs.Common.{◌≡◌, refl, ap₂, ◌∙◌, [], length}
+use Rattle.std.proofs.Common.{rules, ◌≡◌, refl, ap₂, ◌∙◌, [], length, Ok}
+use lib.ListN.{replicate}
 use Rattle.machines.specs.Refusals.{first_refusal}
-use Rattle.geometry.specs.declared.Geometry.{Geometry}
+use Rattle.reference.specs.Entry.{empty_word}
 use Rattle.reference.specs.Calls.{clear, lent}
-use Rattle.reference.specs.Tables.{Tables}
-use Rattle.reference.specs.Steps.{bad_matches, own_refusals, refusals, outcome}
-use Rattle.checks.specs.declared.Checked.{Checked}
-use Rattle.checks.specs.Checks.{checked_tables}
-use Rattle.checks.proofs.Rows.{Decides}
+use Rattle.reference.specs.Steps.{bad_matches, own_refusals, outcome}
+use Rattle.checks.proofs.Acceptance.{handed-on}
 use Rattle.calls.specs.Answers.{tables, left}
 use Rattle.calls.specs.declared.Answer.TheVariants.{Cleared}
-use Rattle.memory.proofs.Decided.{LentAs, tables-decide}
+use Rattle.memory.proofs.Decided.{call-stops, plain-reaches, call-lent}
 use Rattle.memory.proofs.Outcomes.{refused-left, rest-left, cleared-left}
 use Rattle.memory.proofs.clear.Goals as goal
 
-decided : (g : Geometry) (t : Tables) {x : Checked} → x ≡ checked_tables g (length t.store) (length t.indicators)
-    → Decides (refusals g t clear) x [] (LentAs g t)
-unfolding bad_matches own_refusals
-decided g t is = tables-decide g t clear refl is
-
-pub returns-in-Accepted : goal.returns-in-Accepted
-unfolding outcome first_refusal
-returns-in-Accepted c =
-    let d = decided c.args.g (tables c.args.store.now c.args.indicators.now) c.tables-checked.ensures in
-    ap₂ (λ s i. left Cleared s i []) c.empty_all.ensures c.zero_all.ensures
-    ∙ cleared-left _ _ _ _ _ (d.shown _ c.in-Accepted.is) ∙ rest-left _ _ _ clear d c.in-Accepted.is
-
-pub returns-in-Refused : goal.returns-in-Refused
+pub returns-in_err-tables : goal.returns-in_err-tables
 unfolding lent
-returns-in-Refused c =
-    refused-left _ _ _ clear (decided c.args.g (tables c.args.store.now c.args.indicators.now) c.tables-checked.ensures) c.in-Refused.is
+returns-in_err-tables c =
+    let x = c.args in
+    let why = c.in_err-tables.field-0.0 in
+    refused-left x.g x.store.now x.indicators.now clear _ why _ (handed-on why c.from_residual.result c.from_residual.ensures)
+    (call-stops x.g (tables x.store.now x.indicators.now) clear c.in_err-tables.ensures.given)
+
+pub returns : goal.returns
+unfolding bad_matches own_refusals outcome first_refusal
+returns c =
+    let x = c.args in
+    let t = tables x.store.now x.indicators.now in
+    let known = c.in_ok-tables.ensures in
+    let store : c.fill.new.self ≡ replicate (length x.store.now) empty_word = search rules in
+    let indicators : c.fill-2.new.self ≡ replicate (length x.indicators.now) 0 = search rules in
+    ap₂ (λ s i. left (Ok Cleared) s i []) store indicators
+    ∙ cleared-left _ _ _ _ _ (call-lent x.g t c.in_ok-tables.field-0 known.given known.its_own)
+    ∙ rest-left _ _ _ clear (plain-reaches x.g t clear refl known.given)

@@ -1,5 +1,5 @@
--- `memory::first_match` meets its contract: rows 1, 2 and 4 by the check, and what the search finds.
-use Rattle.std.proofs.Common.{ℕ, ◌≡◌, refl, ◌∙◌, false, [], ◌∷◌, length}
+-- `memory::first_match` meets its contract: rows 1, 2 and 4 as they are tested, and what the search finds.
+use Rattle.std.proofs.Common.{ℕ, ◌≡◌, refl, ◌∙◌, ◌∷◌, [], length, Ok}
 use Rattle.machines.specs.Refusals.{◌given-when◌}
 use Rattle.geometry.specs.declared.Geometry.{Geometry}
 use Rattle.reference.specs.Calls.{first_match, lent}
@@ -7,34 +7,44 @@ use Rattle.reference.specs.Refusals.{bad_pattern}
 use Rattle.reference.specs.Tables.{Tables}
 use Rattle.reference.specs.Search.{is_false, first_found}
 use Rattle.reference.specs.Steps.{bad_matches, own_refusals, refusals}
-use Rattle.checks.specs.declared.Checked.{Checked}
-use Rattle.checks.specs.Checks.{checked_tables, and_pattern}
-use Rattle.checks.proofs.Rows.{Decides}
+use Rattle.sizes.specs.declared.Sizes.{Sizes}
+use Rattle.checks.specs.Checks.{ok_map, checked_tables}
+use Rattle.checks.proofs.Acceptance.{handed-on}
+use Rattle.checks.proofs.Rows.{Reaches}
 use Rattle.calls.specs.Answers.{tables}
-use Rattle.memory.proofs.Decided.{LentAs, tables-decide, pattern-decides}
+use Rattle.calls.specs.declared.Answer.TheVariants.{Searched}
+use Rattle.memory.proofs.Decided.{call-stops, plain-reaches, pattern-stops, pattern-passes}
 use Rattle.memory.proofs.Outcomes.{refused-left, rest-left, first-left}
 use Rattle.memory.proofs.first_match.Goals as goal
 
-decided : (g : Geometry) (t : Tables) (key : ℕ) {x y : Checked} → x ≡ checked_tables g (length t.store) (length t.indicators) → y ≡ and_pattern x key
-    → Decides (refusals g t (first_match key)) y (6 given-when is_false (first_found g t key) ∷ []) (λ s. LentAs g t s × (bad_pattern g key ≡ false))
+-- with tables of their lengths row 4 comes next
+lengths-passed : (g : Geometry) (t : Tables) (key : ℕ) {s : Sizes} → Ok s ≡ checked_tables g (length t.store) (length t.indicators)
+    → Reaches (refusals g t (first_match key)) (4 given-when bad_pattern g key ∷ 6 given-when is_false (first_found g t key) ∷ [])
 unfolding bad_matches own_refusals
-decided g t key tested more = pattern-decides g key (λ z s. s.sized) more (tables-decide g t (first_match key) refl tested)
+lengths-passed g t key e = plain-reaches g t (first_match key) refl e
 
-pub first-requires : goal.first-requires
-first-requires c =
-    let x = c.args in
-    let d = decided x.g (tables x.store.now x.indicators.now) x.key c.tables.ensures c.and_pattern-checked.ensures in
-    (d.shown _ c.in-Accepted.is).0
-
-pub returns-in-Accepted : goal.returns-in-Accepted
-returns-in-Accepted c =
-    let x = c.args in
-    let d = decided x.g (tables x.store.now x.indicators.now) x.key c.tables.ensures c.and_pattern-checked.ensures in
-    first-left x.g x.store.now x.indicators.now x.key c.first.result c.first.ensures ∙ rest-left _ _ _ (first_match _) d c.in-Accepted.is
-
-pub returns-in-Refused : goal.returns-in-Refused
+pub returns-in_err-tables : goal.returns-in_err-tables
 unfolding lent
-returns-in-Refused c =
+returns-in_err-tables c =
     let x = c.args in
-    let d = decided x.g (tables x.store.now x.indicators.now) x.key c.tables.ensures c.and_pattern-checked.ensures in
-    refused-left _ _ _ (first_match _) d c.in-Refused.is
+    let why = c.in_err-tables.field-0.0 in
+    refused-left x.g x.store.now x.indicators.now (first_match _) _ why _ (handed-on why c.from_residual.result c.from_residual.ensures)
+    (call-stops x.g (tables x.store.now x.indicators.now) (first_match _) c.in_err-tables.ensures.given)
+
+pub returns-in_err-pattern : goal.returns-in_err-pattern
+unfolding lent
+returns-in_err-pattern c =
+    let x = c.args in
+    let why = c.in_err-pattern.field-0.0 in
+    let known = c.in_ok-tables.ensures in
+    let reached = lengths-passed x.g (tables x.store.now x.indicators.now) x.key known.given in
+    refused-left x.g x.store.now x.indicators.now (first_match _) _ why _ (handed-on why _ c.from_residual-in_err-pattern.ensures)
+    (pattern-stops x.g x.key reached c.in_ok-tables.tables.layout known.its_own c.in_err-pattern.ensures)
+
+pub returns : goal.returns
+returns c =
+    let x = c.args in
+    let known = c.in_ok-tables.ensures in
+    let reached = pattern-passes x.g x.key (lengths-passed x.g (tables x.store.now x.indicators.now) x.key known.given) c.in_ok-tables.tables.layout known.its_own c.in_ok-pattern.ensures in
+    first-left x.g x.store.now x.indicators.now x.key (ok_map Searched c.first.result) (rw (known.its_own, known.lends.0, known.lends.1) at c.first.ensures)
+    ∙ rest-left _ _ _ (first_match _) reached

@@ -6,7 +6,7 @@ use Rattle.geometry.specs.declared.Geometry.{Geometry}
 use Rattle.geometry.specs.Sizes.{sets}
 use Rattle.reference.specs.Line.{line}
 use Rattle.reference.proofs.Line.{true-line, line_refused}
-use Rattle.checks.proofs.Acceptance.{checked-sized, checked_refused}
+use Rattle.checks.proofs.Acceptance.{checked_refused}
 use Rattle.memory.specs.Lines.{HandsBack}
 use Rattle.memory.proofs.line.Goals as goal
 use Rattle.memory.proofs.line.Goals.{else-store-g-via-then-store-g+else-not-is_outside, else-store-g-via-else-store-g}
@@ -15,35 +15,39 @@ use Rattle.memory.proofs.line.Goals.{else-store-g-via-then-store-g+else-not-is_o
 empty-part : {g : Geometry} {store part : Bor (List ℕ)} {s : ℕ} → line g store.now s ≡ [] → part.now ≡ [] → HandsBack g store part s
 empty-part e f = record { entries = f ∙ sym e; itself = λ some. absurd (some f) }
 
+pub returns-in_default : goal.returns-in_default
+returns-in_default c = empty-part (line_refused _ _ _ (rw (checked_refused _ _ (sym c.in_default.ensures.given)))) refl
+
 pub line-requires : goal.line-requires
 line-requires c =
-    let z = checked-sized c.args.g c.in-Accepted.sizes (sym c.geometry-checked.ensures ∙ c.in-Accepted.is) in
-    (z.is-valid, c.if-store-g.true, rw (← z.same-sets) (leb-false _ _ (sym c.is_outside.ensures ∙ c.if-not-is_outside.true)))
+    let own = c.in-Ok.ensures.its_own in
+    let l = c.in-Ok.layout in
+    (rw own c.if-store-g.true, rw (← l.sized.same-sets) (leb-false _ _ (sym c.is_outside.ensures ∙ c.if-not-is_outside.true)))
 
 pub returns-then-not-is_outside : goal.returns-then-not-is_outside
 returns-then-not-is_outside c =
     let x = c.args in
-    let z = checked-sized x.g c.in-Accepted.sizes (sym c.geometry-checked.ensures ∙ c.in-Accepted.is) in
-    let inside : x.set.0 < sets x.g = rw (← z.same-sets) (leb-false _ _ (sym c.is_outside.ensures ∙ c.if-not-is_outside.true)) in
+    let l = c.in-Ok.layout in
+    let own = c.in-Ok.ensures.its_own in
+    let count : l.sizes.sets ≡ sets x.g = rw own at l.sized.same-sets in
+    let inside : x.set.0 < sets x.g = rw (← count) (leb-false _ _ (sym c.is_outside.ensures ∙ c.if-not-is_outside.true)) in
+    let part = rw own at c.line.ensures in
     record {
-      entries = c.line.ensures.entries ∙ sym (true-line x.g x.store.now x.set.0 z.is-valid c.if-store-g.true inside);
-      itself = λ some. c.line.ensures.itself;
+      entries = part.entries ∙ sym (true-line x.g x.store.now x.set.0 (rw own at l.sized.is-valid) c.if-store-g.true inside);
+      itself = λ some. part.itself;
     }
 
 pub returns-else-store-g : goal.returns-else-store-g
 returns-else-store-g c =
     let x = c.args in
-    let z = checked-sized x.g c.in-Accepted.sizes (sym c.geometry-checked.ensures ∙ c.in-Accepted.is) in
+    let l = c.in-Ok.layout in
+    let own = c.in-Ok.ensures.its_own in
+    let count : l.sizes.sets ≡ sets x.g = rw own at l.sized.same-sets in
     empty-part (line_refused x.g x.store.now x.set.0
-    (rw (z.is-valid, ← z.same-sets)
+    (rw (rw own at l.sized.is-valid, ← count)
     (elim c.else-store-g.branch [
       | else-store-g-via-then-store-g+else-not-is_outside w ↦
           rw (eq-eqb _ _ w.if-store-g.true)
-          (le-ltb x.set.0 c.in-Accepted.sizes.sets (leb-true _ _ (sym w.is_outside.ensures ∙ w.if-not-is_outside.false)))
+          (le-ltb x.set.0 l.sizes.sets (leb-true _ _ (sym w.is_outside.ensures ∙ w.if-not-is_outside.false)))
       | else-store-g-via-else-store-g w ↦ rw (ne_eqb _ _ w.if-store-g.false)
     ]))) refl
-
-pub returns-in-Refused : goal.returns-in-Refused
-returns-in-Refused c =
-    let bad = checked_refused _ _ (sym c.geometry-checked.ensures ∙ c.in-Refused.is) in
-    empty-part (line_refused _ _ _ (rw bad)) refl

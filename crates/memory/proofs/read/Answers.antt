@@ -1,59 +1,88 @@
--- `memory::read` meets its contract: rows 1 to 3 by the check, and then the entry or row 5.
-use Rattle.std.proofs.Common.{ℕ, ◌≡◌, refl, sym, ap, ◌∙◌, Bool, false, not, [], ◌∷◌, length, leb, arith}
-use Rattle.machines.specs.Refusals.{◌given-when◌}
+-- `memory::read` meets its contract: rows 1 to 3 as they are tested, then row 5 or the entry.
+use Rattle.std.proofs.Common.{ℕ, ◌<◌, ◌≡◌, refl, sym, ap, ◌∙◌, not, arith, ◌∷◌, [], length, Ok}
+use Rattle.machines.specs.Refusals.{◌given-when◌, first_refusal}
 use Rattle.geometry.specs.declared.Geometry.{Geometry}
 use Rattle.reference.specs.Calls.{read, lent}
 use Rattle.reference.specs.Refusals.{bad_address}
 use Rattle.reference.specs.Tables.{Tables}
-use Rattle.reference.specs.Steps.{bad_matches, bad_entry, own_refusals, refusals}
-use Rattle.reference.proofs.Limits.{address-passes}
-use Rattle.checks.specs.declared.Checked.{Checked}
-use Rattle.checks.specs.declared.Refusal.TheVariants.{BadAddress}
-use Rattle.checks.specs.Checks.{checked_tables, and_row}
-use Rattle.checks.proofs.Rows.{Decides}
+use Rattle.reference.specs.Steps.{bad_matches, bad_entry, own_refusals, refusals, outcome}
+use Rattle.sizes.specs.declared.Sizes.{Sizes}
+use Rattle.sizes.specs.SizesOf.{Sized}
+use Rattle.checks.specs.declared.Refusal.TheVariants.{BadEntry}
+use Rattle.checks.specs.Checks.{checked_tables}
+use Rattle.checks.specs.Passed.{Lent}
+use Rattle.checks.proofs.Acceptance.{handed-on}
+use Rattle.checks.proofs.Rows.{Reaches, row-stops, row-passes}
 use Rattle.calls.specs.Answers.{tables}
 use Rattle.calls.proofs.Tested.{entry-bad, entry-held}
-use Rattle.memory.proofs.Decided.{LentAs, tables-decide, address-decides}
-use Rattle.memory.proofs.Outcomes.{refused-left, rest-left, bad-left, held-left}
+use Rattle.memory.proofs.Decided.{call-stops, plain-reaches, call-lent, address-stops, address-passes-on}
+use Rattle.memory.proofs.Outcomes.{refused-left, rest-left, held-left}
 use Rattle.memory.proofs.read.Goals as goal
+use Rattle.memory.proofs.read.Goals.{In_ok-row, After-is_sound}
 
-decided : (g : Geometry) (t : Tables) (a : ℕ) {x y : Checked} {outside : Bool}
-    → x ≡ checked_tables g (length t.store) (length t.indicators) → outside ≡ leb g.depth a → y ≡ and_row x BadAddress (λ s. outside)
-    → Decides (refusals g t (read a)) y (5 given-when bad_entry g t a ∷ []) (λ s. LentAs g t s × (bad_address g a ≡ false))
+-- with tables of their lengths row 3 comes next
+lengths-passed : (g : Geometry) (t : Tables) (a : ℕ) {s : Sizes} → Ok s ≡ checked_tables g (length t.store) (length t.indicators)
+    → Reaches (refusals g t (read a)) (3 given-when bad_address g a ∷ 5 given-when bad_entry g t a ∷ [])
 unfolding bad_matches own_refusals
-decided g t a tested out row = address-decides g a out row (tables-decide g t (read a) refl tested)
+lengths-passed g t a e = plain-reaches g t (read a) refl e
+
+pub returns-in_err-layout : goal.returns-in_err-layout
+unfolding lent
+returns-in_err-layout c =
+    let x = c.args in
+    let why = c.in_err-layout.field-0.0 in
+    refused-left x.g x.store.now x.indicators.now (read _) _ why _ (handed-on why c.from_residual.result c.from_residual.ensures)
+    (call-stops x.g (tables x.store.now x.indicators.now) (read _) c.in_err-layout.ensures.given)
+
+-- and then row 5, and the address is one
+address-passed : (c : In_ok-row) → Reaches (refusals c.args.g (tables c.args.store.now c.args.indicators.now) (read c.args.address.0))
+    (5 given-when bad_entry c.args.g (tables c.args.store.now c.args.indicators.now) c.args.address.0 ∷ [])
+    × (c.args.address.0 < c.args.g.depth)
+address-passed c =
+    let x = c.args in
+    let t = tables x.store.now x.indicators.now in
+    address-passes-on x.g x.address.0 (lengths-passed x.g t x.address.0 c.in_ok-layout.ensures.given) c.is_outside.ensures c.in_ok-row.ensures
+
+pub returns-in_err-row : goal.returns-in_err-row
+unfolding lent
+returns-in_err-row c =
+    let x = c.args in
+    let t = tables x.store.now x.indicators.now in
+    let why = c.in_err-row.field-0.0 in
+    let reached = lengths-passed x.g t x.address.0 c.in_ok-layout.ensures.given in
+    refused-left x.g x.store.now x.indicators.now (read _) _ why _ (handed-on why _ c.from_residual-in_err-row.ensures)
+    (address-stops x.g x.address.0 reached c.is_outside.ensures c.in_err-row.ensures)
+
+-- what the check has shown of the tables
+shown : (c : In_ok-row) → Lent c.args.g c.in_ok-layout.layout.sizes (length c.args.store.now) (length c.args.indicators.now)
+shown c =
+    let known = c.in_ok-layout.ensures in
+    call-lent c.args.g (tables c.args.store.now c.args.indicators.now) c.in_ok-layout.layout known.given known.its_own
 
 pub word-word-requires : goal.word-word-requires
 word-word-requires c =
-    let x = c.args in
-    let d = decided x.g (tables x.store.now x.indicators.now) x.address.0 c.tables.ensures c.is_outside.ensures c.and_row-checked.ensures in
-    let shown = d.shown _ c.in-Accepted.is in
-    omega (arith, shown.0.entries, (address-passes _ _).0 shown.1)
+    let at = (goal.at.word-word-requires c).In_ok-row in
+    omega (arith, (shown at).entries, (address-passed at).1)
 
-pub returns-then-is_sound : goal.returns-then-is_sound
-returns-then-is_sound c =
-    let x = c.args in
-    let d = decided x.g (tables x.store.now x.indicators.now) x.address.0 c.tables.ensures c.is_outside.ensures c.and_row-checked.ensures in
-    let sized = (d.shown _ c.in-Accepted.is).0.sized in
-    -- row 5, by what the code found of the word
-    let bad : bad_entry x.g (tables x.store.now x.indicators.now) x.address.0 ≡ not c.is_sound.result =
-    entry-bad sized x.store.now x.indicators.now _ _ c.word-word.ensures ∙ ap not (sym c.is_sound.ensures) in
-    held-left x.g x.store.now x.indicators.now _ c.entry_of.result (bad ∙ ap not c.if-is_sound.true)
-    (c.entry_of.ensures ∙ entry-held sized x.store.now x.indicators.now _ _ c.word-word.ensures)
-    ∙ rest-left _ _ _ (read _) d c.in-Accepted.is
+-- row 5, by what the code found of the word
+entry-row : (c : After-is_sound) → Sized c.args.g c.in_ok-layout.layout.sizes
+    → not c.is_sound.result ≡ bad_entry c.args.g (tables c.args.store.now c.args.indicators.now) c.args.address.0
+entry-row c sized = ap not c.is_sound.ensures ∙ sym (entry-bad sized c.args.store.now c.args.indicators.now _ _ c.word-word.ensures)
 
-pub returns-else-is_sound : goal.returns-else-is_sound
-returns-else-is_sound c =
-    let x = c.args in
-    let d = decided x.g (tables x.store.now x.indicators.now) x.address.0 c.tables.ensures c.is_outside.ensures c.and_row-checked.ensures in
-    let sized = (d.shown _ c.in-Accepted.is).0.sized in
-    let bad : bad_entry x.g (tables x.store.now x.indicators.now) x.address.0 ≡ not c.is_sound.result =
-    entry-bad sized x.store.now x.indicators.now _ _ c.word-word.ensures ∙ ap not (sym c.is_sound.ensures) in
-    bad-left _ _ _ _ (bad ∙ ap not c.if-is_sound.false) ∙ rest-left _ _ _ (read _) d c.in-Accepted.is
-
-pub returns-in-Refused : goal.returns-in-Refused
+pub returns-in_err-row-2 : goal.returns-in_err-row-2
 unfolding lent
-returns-in-Refused c =
+returns-in_err-row-2 c =
     let x = c.args in
-    let d = decided x.g (tables x.store.now x.indicators.now) x.address.0 c.tables.ensures c.is_outside.ensures c.and_row-checked.ensures in
-    refused-left _ _ _ (read _) d c.in-Refused.is
+    let why = c.in_err-row-2.field-0.0 in
+    let at = goal.at.returns-in_err-row-2 c in
+    refused-left x.g x.store.now x.indicators.now (read _) _ why _ (handed-on why _ c.from_residual-in_err-row-2.ensures)
+    (row-stops BadEntry (address-passed at.In_ok-row).0 (rw (entry-row at.After-is_sound (shown at.In_ok-row).sized) at c.in_err-row-2.ensures))
+
+pub returns : goal.returns
+unfolding outcome first_refusal
+returns c =
+    let x = c.args in
+    let at = goal.at.returns c in
+    held-left x.g x.store.now x.indicators.now _ c.entry_of.result
+    (c.entry_of.ensures ∙ entry-held (shown at.In_ok-row).sized x.store.now x.indicators.now _ _ c.word-word.ensures)
+    ∙ rest-left _ _ _ (read _) (row-passes BadEntry (address-passed at.In_ok-row).0 (rw (entry-row at.After-is_sound (shown at.In_ok-row).sized) at c.in_ok-row-2.ensures)).0

@@ -1,18 +1,13 @@
 -- `resume::resume` meets its contract: rows 1 and 2 by the check, row 10 by both looks.
-use mathlib.Core.Path.{sym, ◌∙◌}
-use Rattle.resume.proofs.Outcomes.{refused-gone, lent-shown, bad-gone, accepted-gone}
+use Rattle.checks.proofs.Acceptance.{handed-on}
+use Rattle.resume.proofs.Outcomes.{refused-gone, passed-gone}
 use Rattle.resume.proofs.resume.Goals as goal
 
-pub are_bad-requires : goal.are_bad-requires
-are_bad-requires c =
-    let x = c.args in
-    lent-shown x.g x.store.now x.indicators.now c.tables-checked.ensures c.in-Accepted.is
+pub returns-in_err-tables : goal.returns-in_err-tables
+returns-in_err-tables c =
+    rw (handed-on c.in_err-tables.field-0.0 c.from_residual.result c.from_residual.ensures) (refused-gone _ c.args.store c.args.indicators c.in_err-tables.ensures.given)
 
-pub returns-then-are_bad : goal.returns-then-are_bad
-returns-then-are_bad c = bad-gone _ _ _ c.tables-checked.ensures c.in-Accepted.is (sym c.are_bad.ensures ∙ c.if-are_bad.true)
-
-pub returns-else-are_bad : goal.returns-else-are_bad
-returns-else-are_bad c = accepted-gone _ _ _ c.tables-checked.ensures c.in-Accepted.is (sym c.are_bad.ensures ∙ c.if-are_bad.false)
-
-pub returns-in-Refused : goal.returns-in-Refused
-returns-in-Refused c = refused-gone _ _ _ c.tables-checked.ensures c.in-Refused.is
+pub returns : goal.returns
+returns c =
+    let known = c.in_ok-tables.ensures in
+    rw c.row.ensures (passed-gone _ _ _ c.in_ok-tables.tables known.given known.its_own known.lends c.are_bad.ensures)

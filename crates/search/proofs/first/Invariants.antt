@@ -1,25 +1,28 @@
--- The search of the row words from j on ends as the whole one does, and of the line's entries none before an offset is the key.
-use Rattle.std.proofs.Common.{◌-◌, ◌≤◌, ◌≡◌}
+-- The search of the row words that are left ends as the whole one does, and of the line's entries none before an offset is the key.
+use Rattle.std.proofs.Common.{◌≡◌}
 use Rattle.words.specs.Rules.{Nowhere}
 use Rattle.geometry.specs.Sizes.{row_words, set_length}
 use Rattle.reference.specs.Search.{seek_word}
 use Rattle.reference.proofs.Searched.{equal_at}
-use Rattle.calls.specs.Answers.{tables}
-use Rattle.search.proofs.Seeking.{words_from, Named}
+use Rattle.calls.specs.Answers.{tables_in}
+use Rattle.search.proofs.Seeking.{words_from}
 use Rattle.search.proofs.first.Given as goal
-
-abbrev pub invariant-loop-set : goal.invariant-loop-set
-invariant-loop-set l =
-    let t = tables l.store l.indicators in
-    Named l.g t l.key l.set.0 l.words_read × Nowhere l.at.0 (equal_at l.g t l.key l.set.0)
-
-abbrev pub decreases-loop-set : goal.decreases-loop-set
-decreases-loop-set l = set_length l.g l.set.0 - l.at.0
 
 abbrev pub invariant-words : goal.invariant-words
 invariant-words l =
-    let t = tables l.store l.indicators in
-    (l.j.0 ≤ row_words l.g) × (l.words_read ≡ l.j.0) × (words_from l.g t l.key l.j.0 l.words_read ≡ seek_word l.g t l.key)
+    let g = l.tables.layout.geometry in
+    let t = tables_in l.tables in
+    (goal.iterator-words).can_next l.row_words
+    × (goal.iterator-words).is_finite l.row_words
+    × (l.row_words.end ≡ row_words g)
+    × (l.words_read ≡ l.row_words.next)
+    × (words_from g t l.key l.row_words.next l.words_read ≡ seek_word g t l.key)
 
-abbrev pub decreases-words : goal.decreases-words
-decreases-words l = row_words l.g - l.j.0
+abbrev pub invariant-loop-at : goal.invariant-loop-at
+invariant-loop-at l =
+    let g = l.tables.layout.geometry in
+    let t = tables_in l.tables in
+    (goal.iterator-loop-at).can_next l.at-iterator
+    × (goal.iterator-loop-at).is_finite l.at-iterator
+    × (l.at-iterator.end ≡ set_length g l.set.0)
+    × Nowhere l.at-iterator.next (equal_at g t l.key l.set.0)

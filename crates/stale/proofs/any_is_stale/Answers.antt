@@ -1,13 +1,16 @@
--- `stale::any_is_stale` meets its contract. The invariant: no stage before k has a stale bit.
-use borrow.Author.Rules.{rules}
-use Rattle.words.proofs.Rules.{any_here, any-over}
-use Rattle.stale.specs.Stale.{any_is_stale}
+-- `stale::any_is_stale` meets its contract: it asks each stage.
+use Rattle.std.proofs.Common.{refl, rules, tests, arith}
+use Rattle.std.proofs.lemmas.Iterator.{YieldsList-from_range}
+use Rattle.words.proofs.Chains.{any-of-items}
+use Rattle.geometry.specs.Stages.{stages}
+use Rattle.calls.specs.Answers.{tables_in}
+use Rattle.stale.specs.Stale.{stage_is_stale, any_is_stale}
 use Rattle.stale.proofs.any_is_stale.Goals as goal
-
-pub returns-then-stage_is_stale : goal.returns-then-stage_is_stale
-unfolding any_is_stale
-returns-then-stage_is_stale c = any_here _ _ c.loop-k.k (search rules) c.stage_is_stale.ensures c.if-stage_is_stale.true
 
 pub returns : goal.returns
 unfolding any_is_stale
-returns c = any-over _ _ c.loop-k.k (search rules) c.loop-k.invariant
+returns c =
+    let t = c.args.tables.now in
+    let g = t.layout.geometry in
+    let each = YieldsList-from_range 0 t.layout.sizes.stages (stages g) refl (omega (arith, t.lent.sized.same-stages)) in
+    any-of-items (stages g) each (stage_is_stale g (tables_in t)) _ _ _ c.any.ensures.ran (λ k b q found. search (rules, tests))

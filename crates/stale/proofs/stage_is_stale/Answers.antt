@@ -1,15 +1,16 @@
--- `stale::stage_is_stale` meets its contract. The invariant: no row of a value before this one is stale.
-use native.Mathlib.Omega.{arith}
-use Rattle.words.proofs.Rules.{any_here, any-over}
-use Rattle.stale.specs.Stale.{stage_is_stale}
+-- `stale::stage_is_stale` meets its contract: it asks the row of each value.
+use Rattle.std.proofs.Common.{◌+◌, ◌*◌, ◌^◌, refl, rules, tests, arith}
+use Rattle.std.proofs.lemmas.Iterator.{YieldsList-from_range}
+use Rattle.words.proofs.Chains.{any-of-items}
+use Rattle.geometry.specs.Stages.{stage_width}
+use Rattle.calls.specs.Answers.{tables_in}
+use Rattle.stale.specs.Stale.{row_is_stale, stage_is_stale}
 use Rattle.stale.proofs.stage_is_stale.Goals as goal
-
-pub returns-then-row_is_stale : goal.returns-then-row_is_stale
-unfolding stage_is_stale
-returns-then-row_is_stale c =
-    any_here _ _ c.loop-value.value (omega (arith, c.stage_rows-values.ensures, c.loop-value-test.true)) c.row_is_stale.ensures c.if-row_is_stale.true
 
 pub returns : goal.returns
 unfolding stage_is_stale
 returns c =
-    any-over _ _ c.loop-value.value (omega (arith, c.loop-value-test.false, c.stage_rows-values.ensures)) c.loop-value.invariant
+    let t = c.args.tables.now in
+    let g = t.layout.geometry in
+    let each = YieldsList-from_range 0 c.stage_rows.result (2 ^ stage_width g c.args.stage) refl (omega (arith, c.stage_rows.ensures)) in
+    any-of-items (2 ^ stage_width g c.args.stage) each (λ x. row_is_stale g (tables_in t) (512 * c.args.stage + x)) _ _ _ c.any.ensures.ran (λ x b q found. search (rules, tests))

@@ -1,25 +1,23 @@
--- `update::is_covered_by` meets its contract. The invariant: the row is among those from stage k on exactly when it is
--- among all.
-use borrow.Author.Rules.{rules}
+-- `update::is_covered_by` meets its contract: a row is among a pattern's exactly when it is that of one of the stages.
+use Rattle.std.proofs.Common.{rules, tests, arith, refl, sym, ◌∙◌}
+use Rattle.std.proofs.lemmas.Iterator.{YieldsList-from_range}
+use lib.Dec.{eqb}
 use Rattle.words.specs.Rules.{member}
+use Rattle.words.proofs.Chains.{any-of-items}
+use Rattle.words.proofs.Rules.{member-tabulate}
+use Rattle.geometry.specs.Stages.{stages, row_of, rows_of}
 use Rattle.reference.specs.Image.{entry_rows, covers}
-use Rattle.geometry.proofs.Stages.{rows-over}
-use Rattle.update.proofs.RowsChanged.{rows-first, member-here, member-next, member-end}
 use Rattle.update.proofs.is_covered_by.Goals as goal
 
 pub returns-in_default : goal.returns-in_default
 unfolding covers entry_rows member
 returns-in_default c = rw c.in_default.is
 
-pub returns-then-row : goal.returns-then-row
-unfolding covers entry_rows
-returns-then-row c =
-    rw c.in-Pattern.is (member-here _ c.loop-k.invariant.1 (rows-first _ _ _ c.row.ensures (search rules)) c.if-row.true)
-
-pub loop-k-preserved : goal.loop-k-preserved
-loop-k-preserved c =
-    (search rules, member-next _ c.loop-k.invariant.1 (rows-first _ _ _ c.row.ensures (search rules)) c.if-row.false)
-
 pub returns : goal.returns
-unfolding covers entry_rows
-returns c = rw c.in-Pattern.is (member-end _ c.loop-k.invariant.1 (rows-over _ _ c.loop-k.k (search rules)))
+unfolding covers entry_rows rows_of
+returns c =
+    let g = c.args.layout.geometry in
+    let items = YieldsList-from_range 0 c.args.layout.sizes.stages (stages g) refl (omega (arith, c.args.layout.sized.same-stages)) in
+    rw c.in-Some.is
+    (any-of-items _ items (λ k. eqb c.args.row (row_of g c.in-Some.pattern k)) _ _ _ c.any.ensures.ran (λ x b q k. search (rules, tests))
+    ∙ sym (member-tabulate c.args.row (stages g) (row_of g c.in-Some.pattern)))

@@ -10,4 +10,4 @@ unfolding set_length
 returns c = refl
 
 pub overflow_cast-result : goal.overflow_cast-result
-overflow_cast-result c = omega (arith, (facts _ c.requires.0).set-most)
+overflow_cast-result c = omega (arith, (facts _ c.args.layout.sized.is-valid).set-most)

@@ -8,23 +8,23 @@ use Rattle.places.proofs.SetIndex.line.Goals as goal
 
 pub address-from-requires : goal.address-from-requires
 address-from-requires c =
-    (c.requires.0, c.requires.2, rw c.first.ensures (length-pos _ (facts _ c.requires.0) _ c.requires.2))
+    (c.requires.1, rw c.first.ensures (length-pos _ (facts _ c.args.layout.sized.is-valid) _ c.requires.1))
 
 -- the part begins where the set does, and ends inside the store
 pub slice_bounds-result-end : goal.slice_bounds-result-end
 slice_bounds-result-end c =
     let x = c.args in
-    let f = facts _ c.requires.0 in
-    let some = length-pos _ f _ c.requires.2 in
-    let last = address-lt _ f _ (set_length x.g x.self.0 - 1) c.requires.2 (omega (arith, some)) in
-    let start : c.address-from.result.0 ≡ address_of x.g x.self.0 0 = c.address-from.ensures ∙ rw c.first.ensures in
-    omega (arith, last, some, start, c.length.ensures, c.requires.1)
+    let f = facts _ c.args.layout.sized.is-valid in
+    let some = length-pos _ f _ c.requires.1 in
+    let last = address-lt _ f _ (set_length x.layout.geometry x.self.0 - 1) c.requires.1 (omega (arith, some)) in
+    let start : c.address-from.result.0 ≡ address_of x.layout.geometry x.self.0 0 = c.address-from.ensures ∙ rw c.first.ensures in
+    omega (arith, last, some, start, c.length.ensures, c.requires.0)
 
 pub returns : goal.returns
 returns c =
     let x = c.args in
-    let start : c.address-from.result.0 ≡ address_of x.g x.self.0 0 = c.address-from.ensures ∙ rw c.first.ensures in
+    let start : c.address-from.result.0 ≡ address_of x.layout.geometry x.self.0 0 = c.address-from.ensures ∙ rw c.first.ensures in
     record {
       entries = rw (add-sub_cancel_left, c.length.ensures, start);
-      itself = rw (start, mul_comm (address_of x.g x.self.0 0) 4);
+      itself = rw (start, mul_comm (address_of x.layout.geometry x.self.0 0) 4);
     }

@@ -4,4 +4,4 @@ use lib.Count.{trailing_le}
 use Rattle.places.proofs.SetIndex.lowest.Goals as goal
 
 pub overflow_add-result : goal.overflow_add-result
-overflow_add-result c = omega (arith, c.lowest_bit.ensures, trailing_le 64 c.args.word)
+overflow_add-result c = omega (arith, trailing_le 64 c.args.word)

@@ -40,7 +40,8 @@ fn is_amiss(tables: &Tables<'_>, address: Address) -> bool
     if !calls::is_sound(word, patterns) {
         return true;
     }
-    // Not by `is_some_and`: nothing is known there of what a closure gives that has the tables in it.
+    // Tried with `is_some_and`: the proof does not close, since its clause, unlike that of `any`, tells nothing of a closure that has the
+    // tables in it.
     match calls::entry_of(word, patterns) {
         None => false,
         Some(held) => lacks_bit(tables, address.set(tables.layout), held),

@@ -41,7 +41,7 @@ pub enum Answer {
     Matched { hits: u32 },
 }
 
-// The word of an entry in the store.
+// The word of an entry in the store: a number stands for empty there (rule 3.2), and becomes an `Option` here alone.
 pub fn word(entry: Entry) -> u32
     ensures { result ≡ word_of (entry_for entry) }
 {

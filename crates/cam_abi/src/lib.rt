@@ -14,7 +14,7 @@ use calls::Answer;
 use codes::{code, four, lengths_of, resume_code};
 use places::Address;
 
-// The value is the number of words of the indicators.
+// The value is the number of words of the indicators. C has a name for each length; `lengths_of` does the work of both.
 pub fn cam_indicator_words(kind: u32, depth: u32, pattern_width: u32, set_width: u32) -> u64
     ensures { result ≡ size_code (four kind depth pattern_width set_width) indicator_words }
 {

@@ -1,5 +1,5 @@
 // The functions of `cam_abi` under their names for callers in C and Rust, each with its contract: crates/cam_abi/cam.h declares them. A
-// slice is passed as its pointer and its length in elements.
+// slice is passed as its pointer and its length in elements. They are written once more, since a crate is a library or a static library.
 #![tactic(auto)]
 
 ghost use Rattle.std.specs.Prelude.{◌≡◌, []};

@@ -14,6 +14,7 @@ enum Failure {
 }
 
 impl Failure {
+    // No `Display`: what is written is counted, and no clause of `fmt` says when a print is `Ok`.
     fn line(self) -> &'static str {
         match self {
             Failure::Unread => "camrun: the job could not be read\n",

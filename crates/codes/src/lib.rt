@@ -1,4 +1,4 @@
-// An answer or a length as one number: below 256 it is that of a refusal; else it is 256 and the value that docs/MEMORY.md, section 12
+// An answer or a length as one number, since C gets one: below 256 it is that of a refusal; else it is 256 and the value that docs/MEMORY.md, section 12
 // gives. Where the exported functions take a geometry, it is made of four numbers here.
 #![tactic(auto)]
 
@@ -9,7 +9,7 @@ ghost use Rattle.calls.specs.Answers.{answer_for};
 ghost use Rattle.resume.specs.Resumed.{refusal_for};
 ghost use Rattle.codes.specs.Codes.{code_of, resume_code, size_code, four};
 
-use calls::{Answer, Search};
+use calls::Answer;
 use checks::Refusal;
 use geometry::Geometry;
 
@@ -25,7 +25,7 @@ pub fn four(kind: u32, depth: u32, pattern_width: u32, set_width: u32) -> Geomet
     }
 }
 
-// The number of an answer. A search has an arm for each way it ends: the sums differ in what stands for the address.
+// The number of an answer.
 pub fn code(answer: Result<Answer, Refusal>) -> u64
     ensures { result ≡ code_of (answer_for answer []) }
 {
@@ -33,31 +33,15 @@ pub fn code(answer: Result<Answer, Refusal>) -> u64
         Err(why) => u64::from(u32::from(why)),
         Ok(Answer::Cleared) => 256,
         Ok(Answer::Held(entry)) => 256 + u64::from(calls::word(entry)),
-        Ok(
-            Answer::Searched(
-                Search {
-                    address: Some(address),
-                    words_read,
-                    entries_compared,
-                },
-            ),
-        ) => {
-            256 + u64::from(address.number())
-                + 65536 * u64::from(words_read)
-                + 0x1_0000_0000 * u64::from(entries_compared)
+        Ok(Answer::Searched(found)) => {
+            let address = match found.address {
+                Some(address) => address.number(),
+                None => 65535,
+            };
+            256 + u64::from(address)
+                + 65536 * u64::from(found.words_read)
+                + 0x1_0000_0000 * u64::from(found.entries_compared)
         }
-        Ok(
-            Answer::Searched(
-                Search {
-                    address: None,
-                    words_read,
-                    entries_compared,
-                },
-            ),
-        ) => 256
-            + 65535
-            + 65536 * u64::from(words_read)
-            + 0x1_0000_0000 * u64::from(entries_compared),
         Ok(Answer::Matched { hits }) => 256 + u64::from(hits),
     }
 }

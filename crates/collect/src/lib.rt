@@ -1,5 +1,5 @@
 // All-match: whether an indicated set is false, and the addresses of the indicated sets that it takes (rules 8.8 and 8.9 of
-// docs/MEMORY.md). That a set is one of the geometry's follows from the joined word, which has no bit of padding.
+// docs/MEMORY.md). The key goes beside the tables: a struct of both would be made for one call. That a set is one of the geometry's follows from the joined word, which has no bit of padding.
 #![tactic(auto)]
 
 ghost use Rattle.std.specs.Prelude.{◌+◌, ◌*◌, ◌<◌, ◌≡◌, ◌&&◌, eqb, length};

@@ -72,6 +72,7 @@ impl<'a> Page<'a> {
         self.put_bytes(digits.format(n).as_bytes())
     }
 
+    // Not one with `print`: it would take the printing of an item as a closure.
     #[tactic(auto, using(crate::proofs::Printing::turns))]
     fn put_words(&mut self, words: &[u64])
         requires { Room self.old (spaced words.now) }

@@ -1,5 +1,5 @@
 // The run of a job, which prints its report into a lent buffer. Tables are lent side by side, as in `memory`.
-// Numbers become `usize` by `as`: there is no `From` for it, and `TryFrom` would have a failure that cannot be.
+// Between `usize` and u32, and to fewer bits, a number goes by `as`: there is no `From`, and `TryFrom` would have a failure that cannot be.
 #![tactic(auto)]
 
 ghost use Rattle.std.specs.Prelude.{length};

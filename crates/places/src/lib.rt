@@ -5,7 +5,7 @@
 // (`SetIndex::from_caller`), and a set's length hands out its own for a count (`SetLength::entries`); tests/types_apart says
 // which files may use these, so that they are no `From`, which a plain `into` would call. What no type tells apart are the words of a
 // row and those of a match word.
-// Numbers become `usize` by `as`: there is no `From` for it, and `TryFrom` would have a failure that cannot be.
+// Between `usize` and u32, and to fewer bits, a number goes by `as`: there is no `From`, and `TryFrom` would have a failure that cannot be.
 #![tactic(auto)]
 
 mod walk;
@@ -181,7 +181,7 @@ impl SetIndex {
     }
 }
 
-// A set in the tables. That a row's word of the set is one of the indicators follows from their length, which the check of the
+// A set in the tables. A row of the indicators is told by them, its number and the sizes: lent slices stay slices, as in `memory`. That a row's word of the set is one of the indicators follows from their length, which the check of the
 // call has tested.
 impl SetIndex {
     // Its bit of a row becomes `value`.
@@ -208,7 +208,7 @@ impl SetIndex {
         ensures { IsLine layout.geometry store.entry result self.0 }
     {
         let from = self.address(Offset::first(), layout).0 as usize;
-        let to = from + self.length(layout).0 as usize;
+        let to = from + usize::from(self.length(layout).0);
         &store[from..to]
     }
 }
@@ -225,7 +225,7 @@ impl SetLength {
     pub fn offsets(self) -> Walk<Offset>
         ensures { (result.next ≡ 0) × (result.end ≡ self.0) }
     {
-        Walk::to(self.0 as u32)
+        Walk::to(u32::from(self.0))
     }
 }
 

@@ -1,6 +1,6 @@
 // A geometry that is one, with what follows from it: what takes a layout need not ask that its geometry is valid.
 
-ghost use Rattle.std.specs.Prelude.{◌≡◌, ◌<◌, ◌^◌, cond, option_map};
+ghost use Rattle.std.specs.Prelude.{◌≡◌, ◌<◌, ◌^◌, cond, option_map, true};
 ghost use Rattle.geometry.specs.Valid.{valid};
 ghost use Rattle.geometry.specs.Kinds.{number_of};
 ghost use Rattle.geometry.specs.Stages.{stages, stage_width, stage, row_of};
@@ -31,11 +31,20 @@ impl Layout {
         if !allows(kind, g) {
             return None;
         }
-        Some(Layout {
+        Some(Layout::of_valid(g))
+    }
+
+    // That of a geometry. Who asks shows that it is one, so that there is no other case.
+    pub fn of_valid(g: Geometry) -> Layout
+        requires { valid g ≡ true }
+        ensures { result.geometry ≡ g }
+    {
+        let kind = Kind::try_from(g.kind).unwrap_or(Kind::Segmented);
+        Layout {
             geometry: g,
             kind,
             sizes: sizes_of(kind, g),
-        })
+        }
     }
 
     // The bits of stage `k`. Where a stage is asked for, who asks shows that it is one: the walks go through those that the sizes count.

@@ -1,5 +1,5 @@
 // Whether four numbers are a geometry, and what follows from one that is (docs/MEMORY.md, sections 2 to 4).
-// Numbers become `usize` by `as`: there is no `From` for it, and `TryFrom` would have a failure that cannot be.
+// Between `usize` and u32, and to fewer bits, a number goes by `as`: there is no `From`, and `TryFrom` would have a failure that cannot be.
 #![tactic(auto)]
 
 mod layout;
@@ -43,13 +43,14 @@ fn segmented_allows(depth: u32, set: u32) -> bool
 }
 
 // The rule of a kind.
-fn kind_allows(kind: Kind, depth: u32, width: u32, set: u32) -> bool
-    ensures { result ≡ kind_rule (number_of kind) depth width set }
+fn kind_allows(kind: Kind, g: Geometry) -> bool
+    ensures { result ≡ kind_rule (number_of kind) g.depth g.pattern_width g.set_width }
 {
+    let (width, set) = (g.pattern_width, g.set_width);
     match kind {
         Kind::Transposed => is_between(1, 12, width) && set == 1,
         Kind::Cascaded => is_between(1, 27, width) && set == 1,
-        Kind::Segmented => is_between(1, 12, width) && segmented_allows(depth, set),
+        Kind::Segmented => is_between(1, 12, width) && segmented_allows(g.depth, set),
     }
 }
 
@@ -57,7 +58,7 @@ fn kind_allows(kind: Kind, depth: u32, width: u32, set: u32) -> bool
 fn allows(kind: Kind, g: Geometry) -> bool
     ensures { result ≡ (between 1 4096 g.depth && kind_rule (number_of kind) g.depth g.pattern_width g.set_width) }
 {
-    is_between(1, 4096, g.depth) && kind_allows(kind, g.depth, g.pattern_width, g.set_width)
+    is_between(1, 4096, g.depth) && kind_allows(kind, g)
 }
 
 // Only the cascaded kind cuts a pattern into stages.

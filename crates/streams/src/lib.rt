@@ -37,7 +37,7 @@ impl Patience {
     }
 }
 
-// Reads until the input ends or `buf` is full, and answers how many bytes that were.
+// Reads until the input ends or `buf` is full, and answers how many bytes that were, as the library's own `read` does.
 pub fn read_whole<R: Read>(reader: &mut R, buf: &mut [u8]) -> io::Result<usize>
     ensures within { ReadsAtMost result buf.new }
     ensures bytes { GivesWhole result (R.remaining reader.old) (R.remaining reader.new) buf.new }
@@ -55,7 +55,7 @@ pub fn read_whole<R: Read>(reader: &mut R, buf: &mut [u8]) -> io::Result<usize>
     Ok(filled)
 }
 
-// Writes `text`, and answers how many of its bytes: all, or those before a failure. The loop is not that of `read_whole`: one for both
+// Writes `text`, and answers how many of its bytes: all, or those before a failure, which an error would not tell. The loop is not that of `read_whole`: one for both
 // would be lent its call as a closure and give a number beside an error.
 pub fn write_whole<W: Write>(writer: &mut W, text: &[u8]) -> usize
     ensures within { result ≤ length text.now }

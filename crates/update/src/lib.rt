@@ -21,7 +21,8 @@ use checks::Refusal;
 use places::{Address, SetIndex};
 use sizes::Layout;
 
-// Whether an entry covers a row.
+// Whether an entry covers a row. Tried with `is_some_and`: the proof does not close by names that last, since what the closure within
+// gives has none.
 fn is_covered_by(layout: Layout, entry: Entry, row: usize) -> bool
     ensures { result ≡ covers layout.geometry (entry_for entry) row }
 {

@@ -18,13 +18,13 @@ slice_bounds-result-end c =
     let some = length-pos _ f _ c.requires.1 in
     let last = address-lt _ f _ (set_length x.layout.geometry x.self.0 - 1) c.requires.1 (omega (arith, some)) in
     let start : c.address-from.result.0 ≡ address_of x.layout.geometry x.self.0 0 = c.address-from.ensures ∙ rw c.first.ensures in
-    omega (arith, last, some, start, c.length.ensures, c.requires.0)
+    omega (arith, last, some, start, c.from.ensures, c.length.ensures, c.requires.0)
 
 pub returns : goal.returns
 returns c =
     let x = c.args in
     let start : c.address-from.result.0 ≡ address_of x.layout.geometry x.self.0 0 = c.address-from.ensures ∙ rw c.first.ensures in
     record {
-      entries = rw (add-sub_cancel_left, c.length.ensures, start);
+      entries = rw (add-sub_cancel_left, c.from.ensures, c.length.ensures, start);
       itself = rw (start, mul_comm (address_of x.layout.geometry x.self.0 0) 4);
     }

@@ -1,6 +1,6 @@
 -- What the code's entries, calls and answers stand for: those of the reference, with the numbers and values of docs/MEMORY.md
 -- (sections 7 and 9).
-use Rattle.std.specs.Prelude.{ℕ, ◌≡◌, List, [], Option, Some, None, Result, Ok, Err}
+use Rattle.std.specs.Prelude.{ℕ, ◌≡◌, List, Option, Some, None, Result, Ok, Err}
 use Rattle.geometry.specs.declared.Geometry.{Geometry}
 use Rattle.reference.specs.Entry as entries
 use Rattle.reference.specs.Entry.{empty, pattern}

@@ -1,5 +1,5 @@
 // The rows of the table of refusals (rule 9.1 of docs/MEMORY.md) that a call tests before it looks at its tables. A row more is one
-// `row` by a test; the checks here are its uses.
+// `row` by a test, as `match_word` and `pattern` are.
 // Between `usize` and u32, and to fewer bits, a number goes by `as`: there is no `From`, and `TryFrom` would have a failure that cannot be.
 #![tactic(auto)]
 

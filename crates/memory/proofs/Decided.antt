@@ -39,15 +39,19 @@ pub call-lent : (g : Geometry) (t : Tables) (l : Layout) → Ok l.sizes ≡ chec
     → Lent g l.sizes (length t.store) (length t.indicators)
 call-lent g t l given own = rw own at (tables-lent g _ _ l given own)
 
--- Row 3, where it comes next; r is what the code's test found.
-module _ {table rest : List RefusalRow} (g : Geometry) (a : ℕ) (reached : Reaches table (3 given-when bad_address g a ∷ rest)) {r : Bool} (found : r ≡ leb g.depth a) where
-  pub address-stops : {w : Refusal} → Err w ≡ refused_if BadAddress r → first_refusal table ≡ some (number_of w)
+-- Rows 1 to 3 of a call at an address, which lends no match word; r is what the code's test found.
+module _ (g : Geometry) (t : Tables) (c : Call (List ℕ)) (a : ℕ) {rest : List RefusalRow} (own : own_refusals g t c ≡ 3 given-when bad_address g a ∷ rest)
+    (plain : bad_matches g c ≡ false) {s : Sizes} (given : Ok s ≡ checked_tables g (length t.store) (length t.indicators)) {r : Bool} (found : r ≡ leb g.depth a) where
+  reached : Reaches (refusals g t c) (3 given-when bad_address g a ∷ rest)
+  reached = rw own at (plain-reaches g t c plain given)
+
+  pub address-stops : {w : Refusal} → Err w ≡ refused_if BadAddress r → first_refusal (refusals g t c) ≡ some (number_of w)
   unfolding bad_address
   address-stops e = row-stops BadAddress reached (rw found at e)
 
-  pub address-passes-on : {u : Unit {0}} → Ok u ≡ refused_if BadAddress r → Reaches table rest × (a < g.depth)
+  pub address-passes : {u : Unit {0}} → Ok u ≡ refused_if BadAddress r → Reaches (refusals g t c) rest × (a < g.depth)
   unfolding bad_address
-  address-passes-on e = let p = row-passes BadAddress reached (rw found at e) in (p.0, leb-false g.depth a p.1)
+  address-passes e = let p = row-passes BadAddress reached (rw found at e) in (p.0, leb-false g.depth a p.1)
 
 -- Row 4, where it comes next, by the layout that the code has.
 module _ {table rest : List RefusalRow} (g : Geometry) (p : ℕ) (reached : Reaches table (4 given-when bad_pattern g p ∷ rest)) (l : Layout) (own : l.geometry ≡ g) where

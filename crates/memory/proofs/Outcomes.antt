@@ -4,7 +4,8 @@ use mathlib.Core.Path.{◌≡◌, refl, sym, ap}
 use mathlib.Core.Bool.{Bool, true, false, cond}
 use mathlib.Core.List.{List, [], ◌∷◌}
 use mathlib.Core.Option.{some}
-use Rattle.std.specs.Prelude.{Option, Result, Ok, Err}
+use Rattle.std.specs.Prelude.{Option, Result, Ok}
+use Rattle.std.specs.Result.{IsErr, IsErrAnd}
 use lib.ListN.{length, replicate}
 use Rattle.words.specs.Bits.{total_ones}
 use Rattle.machines.specs.Refusals.{RefusalRow, ◌given-when◌, first_refusal}
@@ -20,6 +21,7 @@ use Rattle.sizes.specs.declared.Sizes.{Sizes}
 use Rattle.checks.specs.declared.Refusal.{Refusal}
 use Rattle.checks.specs.Checks.{number_of, ok_map}
 use Rattle.checks.specs.Passed.{Lent}
+use Rattle.checks.proofs.Acceptance.{handed-on}
 use Rattle.checks.proofs.Rows.{Reaches}
 use Rattle.calls.specs.declared.Answer.{Answer}
 use Rattle.calls.specs.declared.Answer.TheVariants.{Cleared, Held, Matched}
@@ -30,11 +32,11 @@ use Rattle.collect.proofs.Marking.{marked-zeros}
 
 -- What the rows decide of a call's table decides its step: the number of a refusal alone, or the rows that are reached.
 module _ (g : Geometry) (s i : List ℕ) (c : Call (List ℕ)) where
-  -- r is what the call hands on
-  pub refused-left : {A : Type 0} (f : A → Answer) (why : Refusal) (r : Result A Refusal) → r ≡ Err why
+  -- r is what `?` hands on
+  pub refused-left : {A : Type 0} (f : A → Answer) (why : Refusal) (r : Result A Refusal) → IsErr r × IsErrAnd r (λ e. e ≡ why)
       → first_refusal (refusals g (tables s i) c) ≡ some (number_of why) → left (ok_map f r) s i (lent c) ≡ step g (tables s i) c
   unfolding outcome step
-  refused-left f why r is e = rw is (sym (ap (outcome g (tables s i) c) e))
+  refused-left f why r handed e = rw (handed-on why r handed) (sym (ap (outcome g (tables s i) c) e))
 
   pub rest-left : {rest : List RefusalRow} → Reaches (refusals g (tables s i) c) rest → outcome g (tables s i) c (first_refusal rest) ≡ step g (tables s i) c
   unfolding step

@@ -13,9 +13,6 @@ loop-j-init c =
     rw c.into_iter-j-iterator.ensures.into_iter_gives
     (tt, tt, items.1 ∙ c.args.tables.now.lent.sized.same-words, all_start _ _ _ _ _ items.0)
 
-pub take_word-requires : goal.take_word-requires
-take_word-requires c = (c.loop-j.auto.matches ∙ c.requires, omega (arith, c.in-Some.ensures.steps), c.joined-word.ensures c.args.tables.now.store.now)
-
 before : (c : In-Some) → let t = c.args.tables.now in
     c.loop-j.matches ≡ marked (taken_below t.layout.geometry (tables_in t) c.args.key c.in-Some.j.0) c.args.matches.now
 before c = rw c.in-Some.ensures.steps.1 c.loop-j.invariant.3

@@ -37,11 +37,6 @@ run_command-requires c =
     rw (h, c.command_at-command.ensures)
     (room (unstopped _ c.requires.unstopped).is-valid c.loop-k.invariant.0 (rw h at c.loop-k-test.true))
 
-pub overflow_add-from : goal.overflow_add-from
-overflow_add-from c =
-    let u = unstopped _ c.requires.unstopped in
-    omega (arith, inside u.is-valid c.loop-k.invariant.0 (rw c.requires.same-header at c.loop-k-test.true) u.inside, u.short)
-
 pub loop-k-preserved : goal.loop-k-preserved
 loop-k-preserved c =
     let h = c.requires.same-header in

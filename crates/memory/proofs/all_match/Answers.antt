@@ -15,7 +15,6 @@ use Rattle.reference.specs.Steps.{bad_matches, own_refusals, refusals, outcome}
 use Rattle.sizes.specs.declared.Sizes.{Sizes}
 use Rattle.checks.specs.declared.Refusal.TheVariants.{BadLengths, FalseSet}
 use Rattle.checks.specs.Checks.{checked_tables}
-use Rattle.checks.proofs.Acceptance.{handed-on}
 use Rattle.checks.proofs.Rows.{Reaches, row-stops, row-passes}
 use Rattle.calls.specs.Answers.{tables}
 use Rattle.collect.proofs.Marking.{length_marked}
@@ -32,20 +31,15 @@ lengths-passed g t key m e = call-reaches g t (all_match key m) e
 
 pub returns-in_err-tables : goal.returns-in_err-tables
 unfolding lent
-returns-in_err-tables c =
-    let x = c.args in
-    let why = c.in_err-tables.field-0.0 in
-    refused-left x.g x.store.now x.indicators.now (all_match _ _) _ why _ (handed-on why c.from_residual.result c.from_residual.ensures)
-    (call-stops x.g (tables x.store.now x.indicators.now) (all_match _ _) c.in_err-tables.ensures.given)
+returns-in_err-tables c = refused-left _ _ _ (all_match _ _) _ _ _ c.from_residual.ensures (call-stops _ _ (all_match _ _) c.in_err-tables.ensures.given)
 
 pub returns-in_err-match_word : goal.returns-in_err-match_word
 unfolding lent
 returns-in_err-match_word c =
     let x = c.args in
-    let why = c.in_err-match_word.field-0.0 in
     let known = c.in_ok-tables.ensures in
     let reached = lengths-passed x.g (tables x.store.now x.indicators.now) x.key x.matches.now known.given in
-    refused-left x.g x.store.now x.indicators.now (all_match _ _) _ why _ (handed-on why _ c.from_residual-in_err-match_word.ensures)
+    refused-left _ _ _ (all_match _ _) _ _ _ c.from_residual-in_err-match_word.ensures
     (row-stops BadLengths reached (rw known.its_own at c.in_err-match_word.ensures))
 
 -- then row 4 comes next, and the match word has its length
@@ -63,20 +57,18 @@ pub returns-in_err-pattern : goal.returns-in_err-pattern
 unfolding lent
 returns-in_err-pattern c =
     let x = c.args in
-    let why = c.in_err-pattern.field-0.0 in
     let reached = (matches-passed (goal.at.returns-in_err-pattern c).In_ok-match_word).0 in
-    refused-left x.g x.store.now x.indicators.now (all_match _ _) _ why _ (handed-on why _ c.from_residual-in_err-pattern.ensures)
+    refused-left _ _ _ (all_match _ _) _ _ _ c.from_residual-in_err-pattern.ensures
     (pattern-stops x.g x.key reached c.in_ok-tables.tables.layout c.in_ok-tables.ensures.its_own c.in_err-pattern.ensures)
 
 pub returns-in_err-row : goal.returns-in_err-row
 unfolding lent
 returns-in_err-row c =
     let x = c.args in
-    let why = c.in_err-row.field-0.0 in
     let known = c.in_ok-tables.ensures in
     let reached = pattern-passes x.g x.key (matches-passed (goal.at.returns-in_err-row c).In_ok-match_word).0 c.in_ok-tables.tables.layout known.its_own c.in_ok-pattern.ensures in
     let found = rw (known.its_own, known.lends.0, known.lends.1) at c.any_is_false.ensures in
-    refused-left x.g x.store.now x.indicators.now (all_match _ _) _ why _ (handed-on why _ c.from_residual-in_err-row.ensures)
+    refused-left _ _ _ (all_match _ _) _ _ _ c.from_residual-in_err-row.ensures
     (row-stops FalseSet reached (rw found at c.in_err-row.ensures))
 
 pub total_ones-requires : goal.total_ones-requires

@@ -5,7 +5,6 @@ use Rattle.machines.specs.Refusals.{first_refusal}
 use Rattle.reference.specs.Entry.{empty_word}
 use Rattle.reference.specs.Calls.{clear, lent}
 use Rattle.reference.specs.Steps.{bad_matches, own_refusals, outcome}
-use Rattle.checks.proofs.Acceptance.{handed-on}
 use Rattle.calls.specs.Answers.{tables, left}
 use Rattle.calls.specs.declared.Answer.TheVariants.{Cleared}
 use Rattle.memory.proofs.Decided.{call-stops, plain-reaches, call-lent}
@@ -14,11 +13,7 @@ use Rattle.memory.proofs.clear.Goals as goal
 
 pub returns-in_err-tables : goal.returns-in_err-tables
 unfolding lent
-returns-in_err-tables c =
-    let x = c.args in
-    let why = c.in_err-tables.field-0.0 in
-    refused-left x.g x.store.now x.indicators.now clear _ why _ (handed-on why c.from_residual.result c.from_residual.ensures)
-    (call-stops x.g (tables x.store.now x.indicators.now) clear c.in_err-tables.ensures.given)
+returns-in_err-tables c = refused-left _ _ _ clear _ _ _ c.from_residual.ensures (call-stops _ _ clear c.in_err-tables.ensures.given)
 
 pub returns : goal.returns
 unfolding bad_matches own_refusals outcome first_refusal

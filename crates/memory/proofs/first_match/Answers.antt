@@ -9,7 +9,6 @@ use Rattle.reference.specs.Search.{is_false, first_found}
 use Rattle.reference.specs.Steps.{bad_matches, own_refusals, refusals}
 use Rattle.sizes.specs.declared.Sizes.{Sizes}
 use Rattle.checks.specs.Checks.{ok_map, checked_tables}
-use Rattle.checks.proofs.Acceptance.{handed-on}
 use Rattle.checks.proofs.Rows.{Reaches}
 use Rattle.calls.specs.Answers.{tables}
 use Rattle.calls.specs.declared.Answer.TheVariants.{Searched}
@@ -25,20 +24,15 @@ lengths-passed g t key e = plain-reaches g t (first_match key) refl e
 
 pub returns-in_err-tables : goal.returns-in_err-tables
 unfolding lent
-returns-in_err-tables c =
-    let x = c.args in
-    let why = c.in_err-tables.field-0.0 in
-    refused-left x.g x.store.now x.indicators.now (first_match _) _ why _ (handed-on why c.from_residual.result c.from_residual.ensures)
-    (call-stops x.g (tables x.store.now x.indicators.now) (first_match _) c.in_err-tables.ensures.given)
+returns-in_err-tables c = refused-left _ _ _ (first_match _) _ _ _ c.from_residual.ensures (call-stops _ _ (first_match _) c.in_err-tables.ensures.given)
 
 pub returns-in_err-pattern : goal.returns-in_err-pattern
 unfolding lent
 returns-in_err-pattern c =
     let x = c.args in
-    let why = c.in_err-pattern.field-0.0 in
     let known = c.in_ok-tables.ensures in
     let reached = lengths-passed x.g (tables x.store.now x.indicators.now) x.key known.given in
-    refused-left x.g x.store.now x.indicators.now (first_match _) _ why _ (handed-on why _ c.from_residual-in_err-pattern.ensures)
+    refused-left _ _ _ (first_match _) _ _ _ c.from_residual-in_err-pattern.ensures
     (pattern-stops x.g x.key reached c.in_ok-tables.tables.layout known.its_own c.in_err-pattern.ensures)
 
 pub returns : goal.returns

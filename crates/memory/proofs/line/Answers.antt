@@ -18,12 +18,6 @@ empty-part e f = record { entries = f ∙ sym e; itself = λ some. absurd (some 
 pub returns-in_default : goal.returns-in_default
 returns-in_default c = empty-part (line_refused _ _ _ (rw (checked_refused _ _ (sym c.in_default.ensures.given)))) refl
 
-pub line-requires : goal.line-requires
-line-requires c =
-    let own = c.in-Ok.ensures.its_own in
-    let l = c.in-Ok.layout in
-    (rw own c.if-store-g.true, rw (← l.sized.same-sets) (leb-false _ _ (sym c.is_outside.ensures ∙ c.if-not-is_outside.true)))
-
 pub returns-then-not-is_outside : goal.returns-then-not-is_outside
 returns-then-not-is_outside c =
     let x = c.args in

@@ -1,57 +1,35 @@
 -- `memory::read` meets its contract: rows 1 to 3 as they are tested, then row 5 or the entry.
-use Rattle.std.proofs.Common.{ℕ, ◌<◌, ◌≡◌, refl, sym, ap, ◌∙◌, not, arith, ◌∷◌, [], length, Ok}
+use Rattle.std.proofs.Common.{◌<◌, ◌≡◌, refl, sym, ap, ◌∙◌, not, arith, ◌∷◌, [], length}
 use Rattle.machines.specs.Refusals.{◌given-when◌, first_refusal}
-use Rattle.geometry.specs.declared.Geometry.{Geometry}
 use Rattle.reference.specs.Calls.{read, lent}
-use Rattle.reference.specs.Refusals.{bad_address}
-use Rattle.reference.specs.Tables.{Tables}
 use Rattle.reference.specs.Steps.{bad_matches, bad_entry, own_refusals, refusals, outcome}
-use Rattle.sizes.specs.declared.Sizes.{Sizes}
 use Rattle.sizes.specs.SizesOf.{Sized}
 use Rattle.checks.specs.declared.Refusal.TheVariants.{BadEntry}
-use Rattle.checks.specs.Checks.{checked_tables}
 use Rattle.checks.specs.Passed.{Lent}
-use Rattle.checks.proofs.Acceptance.{handed-on}
 use Rattle.checks.proofs.Rows.{Reaches, row-stops, row-passes}
 use Rattle.calls.specs.Answers.{tables}
 use Rattle.calls.proofs.Tested.{entry-bad, entry-held}
-use Rattle.memory.proofs.Decided.{call-stops, plain-reaches, call-lent, address-stops, address-passes-on}
+use Rattle.memory.proofs.Decided.{call-stops, call-lent, address-stops, address-passes}
 use Rattle.memory.proofs.Outcomes.{refused-left, rest-left, held-left}
 use Rattle.memory.proofs.read.Goals as goal
 use Rattle.memory.proofs.read.Goals.{In_ok-row, After-is_sound}
 
--- with tables of their lengths row 3 comes next
-lengths-passed : (g : Geometry) (t : Tables) (a : ℕ) {s : Sizes} → Ok s ≡ checked_tables g (length t.store) (length t.indicators)
-    → Reaches (refusals g t (read a)) (3 given-when bad_address g a ∷ 5 given-when bad_entry g t a ∷ [])
-unfolding bad_matches own_refusals
-lengths-passed g t a e = plain-reaches g t (read a) refl e
-
 pub returns-in_err-layout : goal.returns-in_err-layout
 unfolding lent
-returns-in_err-layout c =
-    let x = c.args in
-    let why = c.in_err-layout.field-0.0 in
-    refused-left x.g x.store.now x.indicators.now (read _) _ why _ (handed-on why c.from_residual.result c.from_residual.ensures)
-    (call-stops x.g (tables x.store.now x.indicators.now) (read _) c.in_err-layout.ensures.given)
+returns-in_err-layout c = refused-left _ _ _ (read _) _ _ _ c.from_residual.ensures (call-stops _ _ (read _) c.in_err-layout.ensures.given)
 
--- and then row 5, and the address is one
+-- then row 5 comes next, and the address is one
 address-passed : (c : In_ok-row) → Reaches (refusals c.args.g (tables c.args.store.now c.args.indicators.now) (read c.args.address.0))
     (5 given-when bad_entry c.args.g (tables c.args.store.now c.args.indicators.now) c.args.address.0 ∷ [])
     × (c.args.address.0 < c.args.g.depth)
-address-passed c =
-    let x = c.args in
-    let t = tables x.store.now x.indicators.now in
-    address-passes-on x.g x.address.0 (lengths-passed x.g t x.address.0 c.in_ok-layout.ensures.given) c.is_outside.ensures c.in_ok-row.ensures
+unfolding own_refusals bad_matches
+address-passed c = address-passes _ _ (read _) _ refl refl c.in_ok-layout.ensures.given c.is_outside.ensures c.in_ok-row.ensures
 
 pub returns-in_err-row : goal.returns-in_err-row
-unfolding lent
+unfolding lent own_refusals bad_matches
 returns-in_err-row c =
-    let x = c.args in
-    let t = tables x.store.now x.indicators.now in
-    let why = c.in_err-row.field-0.0 in
-    let reached = lengths-passed x.g t x.address.0 c.in_ok-layout.ensures.given in
-    refused-left x.g x.store.now x.indicators.now (read _) _ why _ (handed-on why _ c.from_residual-in_err-row.ensures)
-    (address-stops x.g x.address.0 reached c.is_outside.ensures c.in_err-row.ensures)
+    refused-left _ _ _ (read _) _ _ _ c.from_residual-in_err-row.ensures
+    (address-stops _ _ (read _) _ refl refl c.in_ok-layout.ensures.given c.is_outside.ensures c.in_err-row.ensures)
 
 -- what the check has shown of the tables
 shown : (c : In_ok-row) → Lent c.args.g c.in_ok-layout.layout.sizes (length c.args.store.now) (length c.args.indicators.now)
@@ -72,10 +50,8 @@ entry-row c sized = ap not c.is_sound.ensures ∙ sym (entry-bad sized c.args.st
 pub returns-in_err-row-2 : goal.returns-in_err-row-2
 unfolding lent
 returns-in_err-row-2 c =
-    let x = c.args in
-    let why = c.in_err-row-2.field-0.0 in
     let at = goal.at.returns-in_err-row-2 c in
-    refused-left x.g x.store.now x.indicators.now (read _) _ why _ (handed-on why _ c.from_residual-in_err-row-2.ensures)
+    refused-left _ _ _ (read _) _ _ _ c.from_residual-in_err-row-2.ensures
     (row-stops BadEntry (address-passed at.In_ok-row).0 (rw (entry-row at.After-is_sound (shown at.In_ok-row).sized) at c.in_err-row-2.ensures))
 
 pub returns : goal.returns

@@ -1,6 +1,5 @@
 -- `words::row_mask` meets its contract, by the three cases of a mask.
 use Rattle.std.proofs.Common.{◌%◌, sym, arith}
-use lib.Pow.{pow_pos}
 use Rattle.words.proofs.Machine.{shifted_one, mask_full, mask-none, mask-part}
 use Rattle.words.proofs.row_mask.Goals as goal
 
@@ -9,11 +8,6 @@ returns-then-word-places c = sym (mask_full _ _ c.if-word-places.true)
 
 pub returns-then-places-word : goal.returns-then-places-word
 returns-then-places-word c = sym (mask-none _ _ c.if-places-word.true)
-
-pub overflow_sub-result : goal.overflow_sub-result
-overflow_sub-result c =
-    let b = c.args.places % 64 in
-    rw (shifted_one 64 b (omega arith)) (omega (arith, pow_pos b))
 
 pub returns : goal.returns
 returns c = rw (shifted_one 64 (c.args.places % 64) (omega arith)) (sym (mask-part _ _ (omega arith)))

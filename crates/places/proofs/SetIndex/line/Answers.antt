@@ -1,6 +1,5 @@
 -- `places::SetIndex::line` meets its contract: the part from the set's first address on, as long as the set.
 use Rattle.std.proofs.Common.{◌-◌, ◌≡◌, ◌∙◌, arith}
-use native.Mathlib.Nat.{add-sub_cancel_left, mul_comm}
 use Rattle.geometry.specs.Sizes.{address_of, set_length}
 use Rattle.geometry.proofs.Facts.{facts}
 use Rattle.geometry.proofs.Places.{length-pos, address-lt}
@@ -19,12 +18,3 @@ slice_bounds-result-end c =
     let last = address-lt _ f _ (set_length x.layout.geometry x.self.0 - 1) c.requires.1 (omega (arith, some)) in
     let start : c.address-from.result.0 ≡ address_of x.layout.geometry x.self.0 0 = c.address-from.ensures ∙ rw c.first.ensures in
     omega (arith, last, some, start, c.from.ensures, c.length.ensures, c.requires.0)
-
-pub returns : goal.returns
-returns c =
-    let x = c.args in
-    let start : c.address-from.result.0 ≡ address_of x.layout.geometry x.self.0 0 = c.address-from.ensures ∙ rw c.first.ensures in
-    record {
-      entries = rw (add-sub_cancel_left, c.from.ensures, c.length.ensures, start);
-      itself = rw (start, mul_comm (address_of x.layout.geometry x.self.0 0) 4);
-    }

@@ -7,8 +7,5 @@ use Rattle.stale.proofs.Row.is_stale_at.Goals as goal
 pub read-word-requires : goal.read-word-requires
 read-word-requires c = rw c.number.ensures (word-there c.args.self.now c.args.at.0 c.requires)
 
-pub returns-then-word-ne0 : goal.returns-then-word-ne0
-returns-then-word-ne0 c = word-told c.args.self.now c.args.at.0 c.number.ensures c.read-word.ensures c.word_is_stale.ensures
-
 pub returns-else-word-ne0 : goal.returns-else-word-ne0
 returns-else-word-ne0 c = word-told c.args.self.now c.args.at.0 c.number.ensures c.read-word.ensures (rw c.if-word-ne0.false (exceeds-none 0 _ refl))

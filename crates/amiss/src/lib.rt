@@ -35,16 +35,10 @@ fn is_amiss(tables: &Tables<'_>, address: Address) -> bool
     requires { address.0 < tables.now.layout.geometry.depth }
     ensures { result ≡ is_amiss tables.now.layout.geometry (tables_in tables.now) address.0 }
 {
-    let patterns = tables.layout.sizes.patterns;
-    let word = address.word(tables.store);
-    if !calls::is_sound(word, patterns) {
-        return true;
-    }
-    // Tried with `is_some_and`: the proof does not close, since its clause, unlike that of `any`, tells nothing of a closure that has the
-    // tables in it.
-    match calls::entry_of(word, patterns) {
-        None => false,
-        Some(held) => lacks_bit(tables, address.set(tables.layout), held),
+    match calls::entry_at(tables.layout, tables.store, address) {
+        Err(_) => true,
+        Ok(None) => false,
+        Ok(Some(held)) => lacks_bit(tables, address.set(tables.layout), held),
     }
 }
 

@@ -1,4 +1,4 @@
-// The items of an answer, which end their line, printed on a page.
+// The items of an answer, which end their line, printed on a page; by pieces and not by `Display`, as `figures` says.
 #![tactic(auto, using(crate::proofs::Words::words_ended, figures::proofs::Printing::room_after), unfolding(figures::specs::Figures::ascii, crate::specs::Items::ended, crate::specs::Items::entry_text, crate::specs::Items::answer_items))]
 
 ghost use Rattle.std.specs.Prelude.{◌≡◌, ◌++◌};

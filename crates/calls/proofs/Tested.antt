@@ -1,16 +1,15 @@
 -- What the code finds of a word of the store is what row 5 of the table tests, and the entry that the address holds.
-use Prim.Native.Nat.{ℕ}
-use mathlib.Core.Path.{◌≡◌}
-use mathlib.Core.Bool.{cond, not, ◌||◌}
-use mathlib.Core.List.{List}
-use lib.Dec.{eqb, ltb}
+use Rattle.std.proofs.Common.{ℕ, ◌≡◌, refl, sym, ap, ◌∙◌, Bool, true, false, cond, not, ◌||◌, List, eqb, ltb, Option, Result, Ok, Err}
 use Rattle.geometry.specs.declared.Geometry.{Geometry}
-use Rattle.reference.specs.Entry.{empty, pattern, empty_word, entry_of}
+use Rattle.reference.specs.Entry.{Entry, empty, pattern, empty_word, entry_of}
 use Rattle.reference.specs.Tables.{stored_word, stored_entry}
 use Rattle.reference.specs.Steps.{bad_entry}
 use Rattle.sizes.specs.declared.Sizes.{Sizes}
 use Rattle.sizes.specs.SizesOf.{Sized}
-use Rattle.calls.specs.Answers.{tables}
+use Rattle.checks.specs.declared.Refusal.{Refusal}
+use Rattle.checks.specs.declared.Refusal.TheVariants.{BadEntry}
+use Rattle.checks.specs.Checks.{refused_if}
+use Rattle.calls.specs.Answers.{tables, entry_for}
 
 -- w is the word that the store has at address a
 module _ {g : Geometry} {z : Sizes} (f : Sized g z) (s i : List ℕ) (a w : ℕ) (is : w ≡ stored_word (tables s i) a) where
@@ -21,3 +20,42 @@ module _ {g : Geometry} {z : Sizes} (f : Sized g z) (s i : List ℕ) (a w : ℕ)
   pub entry-held : cond (ltb w z.patterns) (pattern w) empty ≡ stored_entry g (tables s i) a
   unfolding entry_of
   entry-held = rw (is, f.same-patterns)
+
+  -- `sound` is what the code found of it
+  module _ {sound : Bool} (tested : sound ≡ (eqb w empty_word || ltb w z.patterns)) where
+    bad : bad_entry g (tables s i) a ≡ not sound
+    bad = entry-bad ∙ ap not (sym tested)
+
+    pub entry-refused : {why : Refusal} → Err why ≡ refused_if BadEntry (not sound)
+        → ◌≡◌ {A = Result Entry Refusal} (Err why) (cond (bad_entry g (tables s i) a) (Err BadEntry) (Ok (stored_entry g (tables s i) a)))
+    entry-refused {why} e = rw bad (go sound e)
+      where
+        go : (b : Bool) → Err why ≡ refused_if BadEntry (not b) → ◌≡◌ {A = Result Entry Refusal} (Err why) (cond (not b) (Err BadEntry) (Ok (stored_entry g (tables s i) a)))
+        go true e = absurd (cc)
+        go false e = cc
+
+    -- x is the code's entry there
+    pub entry-given : {u : Unit {0}} → Ok u ≡ refused_if BadEntry (not sound) → (x : Option ℕ) → entry_for x ≡ cond (ltb w z.patterns) (pattern w) empty
+        → ◌≡◌ {A = Result Entry Refusal} (Ok (entry_for x)) (cond (bad_entry g (tables s i) a) (Err BadEntry) (Ok (stored_entry g (tables s i) a)))
+    entry-given {u} e x holds = rw (bad, holds ∙ entry-held) (go sound e)
+      where
+        go : (b : Bool) → Ok u ≡ refused_if BadEntry (not b)
+            → ◌≡◌ {A = Result Entry Refusal} (Ok (stored_entry g (tables s i) a)) (cond (not b) (Err BadEntry) (Ok (stored_entry g (tables s i) a)))
+        go true e = refl
+        go false e = absurd (cc)
+
+-- which of its two ways row 5 went
+module _ (b : Bool) (y : Entry) where
+  pub bad-there : {why : Refusal} → ◌≡◌ {A = Result Entry Refusal} (Err why) (cond b (Err BadEntry) (Ok y)) → (b ≡ true) × (why ≡ BadEntry)
+  bad-there {why} = go b
+    where
+      go : (b : Bool) → ◌≡◌ {A = Result Entry Refusal} (Err why) (cond b (Err BadEntry) (Ok y)) → (b ≡ true) × (why ≡ BadEntry)
+      go true e = (refl, cc)
+      go false e = absurd (cc)
+
+  pub held-there : {x : Entry} → ◌≡◌ {A = Result Entry Refusal} (Ok x) (cond b (Err BadEntry) (Ok y)) → (b ≡ false) × (x ≡ y)
+  held-there {x} = go b
+    where
+      go : (b : Bool) → ◌≡◌ {A = Result Entry Refusal} (Ok x) (cond b (Err BadEntry) (Ok y)) → (b ≡ false) × (x ≡ y)
+      go true e = absurd (cc)
+      go false e = (refl, cc)

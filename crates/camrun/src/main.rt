@@ -14,7 +14,7 @@ enum Failure {
 }
 
 impl Failure {
-    // No `Display`: what is written is counted, and no clause of `fmt` says when a print is `Ok`.
+    // No `Display`: it goes out by `write_whole`, as the report does, which takes bytes and tries again where a write was interrupted.
     fn line(self) -> &'static str {
         match self {
             Failure::Unread => "camrun: the job could not be read\n",

@@ -72,7 +72,7 @@ impl<'a> Page<'a> {
         self.put_bytes(digits.format(n).as_bytes())
     }
 
-    // Not one with `print`: it would take the printing of an item as a closure.
+    // Not one with `print`: a loop over either would need a trait of what is printed, with its law and two impls, for two lines.
     #[tactic(auto, using(crate::proofs::Printing::turns))]
     fn put_words(&mut self, words: &[u64])
         requires { Room self.old (spaced words.now) }

@@ -1,22 +1,26 @@
 -- Rows 1 and 2 of the table at a call, by the check of its tables, and which rows are then reached.
-use Rattle.std.proofs.Common.{ℕ, ◌<◌, ◌≡◌, refl, Bool, false, List, ◌∷◌, length, Ok, Err}
+use Rattle.std.proofs.Common.{ℕ, ◌<◌, ◌≡◌, refl, Bool, false, List, ◌∷◌, length, Result, Ok, Err}
 use mathlib.Core.Option.{some}
 use lib.Dec.{leb}
+use Rattle.std.specs.Result.{IsErr, IsErrAnd}
 use borrow.Author.Tests.{leb-false}
 use Rattle.machines.specs.Refusals.{RefusalRow, ◌given-when◌, first_refusal}
 use Rattle.geometry.specs.declared.Geometry.{Geometry}
 use Rattle.geometry.specs.Sizes.{patterns}
-use Rattle.reference.specs.Calls.{Call}
+use Rattle.reference.specs.Calls.{Call, lent}
 use Rattle.reference.specs.Refusals.{bad_address, bad_pattern}
 use Rattle.reference.specs.Tables.{Tables}
-use Rattle.reference.specs.Steps.{bad_lengths, bad_matches, own_refusals, refusals}
+use Rattle.reference.specs.Steps.{bad_lengths, bad_matches, own_refusals, refusals, step}
 use Rattle.sizes.specs.declared.Sizes.{Sizes}
 use Rattle.sizes.specs.declared.layout.Layout.{Layout}
 use Rattle.checks.specs.declared.Refusal.{Refusal}
 use Rattle.checks.specs.declared.Refusal.TheVariants.{BadAddress, BadPattern}
-use Rattle.checks.specs.Checks.{number_of, refused_if, checked_tables}
+use Rattle.checks.specs.Checks.{number_of, ok_map, refused_if, checked_tables}
 use Rattle.checks.specs.Passed.{Lent}
 use Rattle.checks.proofs.Acceptance.{tables-lent}
+use Rattle.calls.specs.declared.Answer.{Answer}
+use Rattle.calls.specs.Answers.{tables, left}
+use Rattle.memory.proofs.Outcomes.{refused-left}
 use Rattle.checks.proofs.Rows.{Reaches, row-stops, row-passes, tables-stop, tables-pass, row-idle}
 
 module _ (g : Geometry) (t : Tables) (c : Call (List ℕ)) where
@@ -33,6 +37,11 @@ module _ (g : Geometry) (t : Tables) (c : Call (List ℕ)) where
   pub plain-reaches : bad_matches g c ≡ false → {s : Sizes} → Ok s ≡ checked_tables g (length t.store) (length t.indicators)
       → Reaches (refusals g t c) (own_refusals g t c)
   plain-reaches plain e = row-idle 2 (rw plain at (call-reaches e))
+
+-- Where row 1 or 2 stops it, what `?` hands on is the call's step.
+pub tables-left : {A : Type 0} (g : Geometry) (s i : List ℕ) (c : Call (List ℕ)) (f : A → Answer) (why : Refusal) (r : Result A Refusal)
+    → IsErr r × IsErrAnd r (λ e. e ≡ why) → Err why ≡ checked_tables g (length s) (length i) → left (ok_map f r) s i (lent c) ≡ step g (tables s i) c
+tables-left g s i c f why r handed e = refused-left g s i c f why r handed (call-stops g (tables s i) c e)
 
 -- What the layout of a check that passed tells of the tables.
 pub call-lent : (g : Geometry) (t : Tables) (l : Layout) → Ok l.sizes ≡ checked_tables g (length t.store) (length t.indicators) → l.geometry ≡ g

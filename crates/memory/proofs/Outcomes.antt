@@ -4,7 +4,7 @@ use mathlib.Core.Path.{◌≡◌, refl, sym, ap}
 use mathlib.Core.Bool.{Bool, true, false, cond}
 use mathlib.Core.List.{List, [], ◌∷◌}
 use mathlib.Core.Option.{some}
-use Rattle.std.specs.Prelude.{Option, Result, Ok}
+use Rattle.std.specs.Prelude.{Option, Result, Ok, Err}
 use Rattle.std.specs.Result.{IsErr, IsErrAnd}
 use lib.ListN.{length, replicate}
 use Rattle.words.specs.Bits.{total_ones}
@@ -19,6 +19,7 @@ use Rattle.reference.specs.Search.{Found, hit, nothing, false_set, is_false, ans
 use Rattle.reference.specs.Steps.{bad_entry, accepted, clear_tables, refusals, outcome, step}
 use Rattle.sizes.specs.declared.Sizes.{Sizes}
 use Rattle.checks.specs.declared.Refusal.{Refusal}
+use Rattle.checks.specs.declared.Refusal.TheVariants.{BadEntry}
 use Rattle.checks.specs.Checks.{number_of, ok_map}
 use Rattle.checks.specs.Passed.{Lent}
 use Rattle.checks.proofs.Acceptance.{handed-on}
@@ -26,6 +27,7 @@ use Rattle.checks.proofs.Rows.{Reaches}
 use Rattle.calls.specs.declared.Answer.{Answer}
 use Rattle.calls.specs.declared.Answer.TheVariants.{Cleared, Held, Matched}
 use Rattle.calls.specs.Answers.{entry_for, answer_for, tables, left}
+use Rattle.calls.proofs.Tested.{bad-there, held-there}
 use Rattle.update.specs.Replacing.{replacing}
 use Rattle.collect.specs.Marks.{marked}
 use Rattle.collect.proofs.Marking.{marked-zeros}
@@ -60,11 +62,13 @@ replacing-left g t a e c bare does = go (bad_entry g t a)
     go true = rw bare
     go false = sym does
 
--- Read: the entry of the address.
-pub held-left : (g : Geometry) (s i : List ℕ) (a : ℕ) (e : Option ℕ) → entry_for e ≡ stored_entry g (tables s i) a
-    → left (Ok (Held e)) s i [] ≡ accepted g (tables s i) (read a)
-unfolding accepted
-held-left g s i a e is = rw is
+-- Read, with row 5; r is what the code gives of the address.
+pub read-left : (g : Geometry) (s i : List ℕ) (a : ℕ) (r : Result (Option ℕ) Refusal)
+    → ok_map entry_for r ≡ cond (bad_entry g (tables s i) a) (Err BadEntry) (Ok (stored_entry g (tables s i) a))
+    → left (ok_map Held r) s i [] ≡ outcome g (tables s i) (read a) (first_refusal (5 given-when bad_entry g (tables s i) a ∷ []))
+unfolding outcome first_refusal accepted lent
+read-left g s i a (Err why) is = let there = bad-there _ _ is in rw (there.0, there.1)
+read-left g s i a (Ok e) is = let there = held-there _ _ is in rw (there.0, there.1)
 
 -- First-match: row 6 and the answer are made of one search.
 pub first-left : (g : Geometry) (s i : List ℕ) (key : ℕ) (r : Result Answer Refusal) → answer_for r [] ≡ answer_of (first_found g (tables s i) key)

@@ -1,6 +1,7 @@
 // The six calls and the line, over lent tables (docs/MEMORY.md, sections 7 to 9 and 11). Each gives the answer of its step in
 // `reference` and leaves its tables, for every input: any geometry, tables of any length and content. Store and indicators are lent side
-// by side, as a rule of the project has it: a struct of both would have to be made before their lengths are checked.
+// by side, as a rule of the project has it: a struct of both would have to be made before their lengths are checked. A call's first lines
+// are the rows of its table, one by one: a function for those that several have would want a definition of what it gives.
 #![tactic(auto)]
 
 ghost use Rattle.std.specs.Prelude.{◌≡◌, []};
@@ -66,10 +67,7 @@ pub fn read(
 {
     let layout = checks::tables(g, store.len(), indicators.len())?;
     checks::row(Refusal::BadAddress, address.is_outside(g))?;
-    let word = address.word(store);
-    let patterns = layout.sizes.patterns;
-    checks::row(Refusal::BadEntry, !calls::is_sound(word, patterns))?;
-    Ok(calls::entry_of(word, patterns))
+    calls::entry_at(layout, store, address)
 }
 
 // The lowest address that holds the key, or none.

@@ -23,7 +23,7 @@ use walk::Place;
 pub use walk::{Sets, Walk};
 
 // An address, as it comes from a caller or from the rule.
-#[derive(Clone, Copy, Debug, PartialEq, Eq)]
+#[derive(Clone, Copy, PartialEq, Eq)]
 pub struct Address(u32);
 
 // The number of a set. That it is one of a geometry's sets is asked where it matters, of this type as of the others here: the number alone
@@ -156,7 +156,7 @@ impl SetIndex {
     }
 
     // The set that the lowest bit of a row's word belongs to. The loops over row words show what is asked: a row has 64 words
-    // at most.
+    // at most. The word and its place are two: each has its word from elsewhere, and looks at it alone first.
     pub fn lowest(word: u64, at: RowWord) -> Self
         requires { at.0 < 64 }
         ensures { result.0 ≡ 64 * at.0 + count_trailing_zeros 64 word }

@@ -14,7 +14,8 @@ pub trait Place: Drop {
         ensures { number result ≡ n };
 }
 
-// The places from `next` on, as far as `end`.
+// The places from `next` on, as far as `end`. Not a range with a closure for what it makes of a number: no function could name that type
+// for what it gives.
 #[derive(Drop)]
 pub struct Walk<T> {
     next: u32,

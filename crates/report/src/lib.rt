@@ -1,6 +1,6 @@
 // The lines of a report, printed on a page: that of a command, that of a geometry and that of a stop.
 //
-// Whoever runs a job shows that no job prints more than its buffer holds.
+// Whoever runs a job shows that no job prints more than its buffer holds. By pieces and not by `Display`, as `figures` says.
 #![tactic(auto, using(figures::proofs::Printing::both, figures::proofs::Printing::room_after), unfolding(figures::specs::Figures::ascii, answers::specs::Items::ended, answers::specs::Items::answer_items, crate::specs::Lines::line, crate::specs::Lines::answer_line, crate::specs::Lines::first_line, crate::specs::Lines::stop_line))]
 
 ghost use Rattle.reference.specs.Calls.{refused};

@@ -29,7 +29,7 @@ pub fn joined(layout: Layout, indicators: &[u64], key: u32, j: RowWord) -> u64
 // Looks at the words of the joined row until one is not 0; in the segmented kind then fetches the line of the first indicated
 // set and compares its entries until one is the key (rule 8.7); where none is, the set is false (rule 8.9). Words are counted as
 // they are read, entries as their line is fetched (rule 8.10). The loop gives its value by `break` and is left by its label, a form
-// that the project's rules ask for here, so that it is no chain.
+// that the project's rules ask for here, so that it is no chain. Tables and key are two, as in `collect`.
 pub fn first(tables: &Tables<'_>, key: u32) -> Result<Search, Refusal>
     ensures { answer_for (ok_map Searched result) [] ≡ answer_of (first_found tables.now.layout.geometry (tables_in tables.now) key) }
 {

@@ -1,4 +1,5 @@
-// A geometry that is one, with what follows from it: what takes a layout need not ask that its geometry is valid.
+// A geometry that is one, with what follows from it: what takes a layout need not ask that its geometry is valid. To `usize` a number goes
+// by `as`, as in lib.rt.
 
 ghost use Rattle.std.specs.Prelude.{◌≡◌, ◌<◌, ◌^◌, cond, option_map, true};
 ghost use Rattle.geometry.specs.Valid.{valid};
@@ -84,7 +85,8 @@ impl Layout {
         }
     }
 
-    // The row of stage `k` of a pattern.
+    // The row of stage `k` of a pattern. The walks over a pattern's rows count its stages and ask this of each: an iterator over rows would
+    // need a type with a law of its own in its place.
     pub fn row(self, pattern: u32, k: u32) -> usize
         requires { k < stages self.geometry }
         ensures { result ≡ row_of self.geometry pattern k }

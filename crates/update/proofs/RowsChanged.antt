@@ -1,11 +1,11 @@
 -- What the functions of `update` find in a turn of their loops and at the end of them, the rows of a pattern stage by stage; of the
 -- set of the address that another entry comes to; and what `replace` makes of it.
 use Prim.Native.Nat.{ℕ, ◌+◌, ◌*◌, ◌/◌, ◌%◌, ◌<◌}
-use mathlib.Core.Path.{◌≡◌, refl, ◌∙◌}
-use mathlib.Core.Bool.{Bool, true, false, cond, not, ◌&&◌, ◌||◌}
+use mathlib.Core.Path.{◌≡◌}
+use mathlib.Core.Bool.{Bool, true, false, cond, not, ◌&&◌}
 use mathlib.Core.List.{List, [], ◌∷◌}
 use Rattle.std.specs.Prelude.{Option, Ok, Err}
-use lib.Dec.{eqb, ltb}
+use lib.Dec.{eqb}
 use lib.ListN.{length, set, drop}
 use Rattle.words.specs.Rules.{any, keep}
 use Rattle.words.specs.Bits.{set_bit, clear_bit, change_bit}
@@ -16,8 +16,8 @@ use Rattle.geometry.proofs.Facts.{facts}
 use Rattle.geometry.proofs.Places.{address-lt}
 use Rattle.geometry.proofs.Stages.{rows_drop}
 use Rattle.cover.specs.Change.{change, others_cover, is_released, moved}
-use Rattle.reference.specs.Entry.{Entry, empty, pattern, empty_word, word_of}
-use Rattle.reference.specs.Tables.{stored_word}
+use Rattle.reference.specs.Entry.{Entry, word_of}
+use Rattle.reference.specs.Tables.{stored_entry}
 use Rattle.reference.specs.Image.{entry_rows, store_cover}
 use Rattle.reference.specs.Update.{replaced}
 use Rattle.reference.specs.Steps.{bad_entry}
@@ -25,11 +25,10 @@ use Rattle.sizes.specs.declared.Sizes.{Sizes}
 use Rattle.sizes.specs.SizesOf.{Sized}
 use Rattle.checks.specs.declared.Refusal.{Refusal}
 use Rattle.checks.specs.declared.Refusal.TheVariants.{BadEntry}
-use Rattle.checks.specs.Checks.{refused_if}
 use Rattle.calls.specs.declared.Answer.TheVariants.{Held}
 use Rattle.calls.specs.Answers.{entry_for, tables, left}
 use Rattle.calls.proofs.Indexed.{place-within, set-within}
-use Rattle.calls.proofs.Tested.{entry-bad, entry-held}
+use Rattle.calls.proofs.Tested.{bad-there, held-there}
 use Rattle.update.specs.declared.Target.{Target}
 use Rattle.update.specs.Targets.{cover_in}
 use Rattle.update.specs.Replacing.{replacing}
@@ -102,29 +101,16 @@ module _ (t : Target) {s : ℕ} (is : s ≡ set_of t.layout.geometry t.address.0
 
 -- ---- an entry comes to an address
 
--- what the row of refusal 5 tells of the word
-refuses : (sound : Bool) {why : Refusal} → refused_if BadEntry (not sound) ≡ Err why → (sound ≡ false) × (why ≡ BadEntry)
-refuses true given = absurd (cc)
-refuses false given = (refl, cc)
-
-passes : (sound : Bool) {u : Unit {0}} → refused_if BadEntry (not sound) ≡ Ok u → sound ≡ true
-passes true given = refl
-passes false given = absurd (cc)
-
--- e is the entry, w the word of the store at the address a; `sound` is what the code found of it
-module _ {g : Geometry} {sizes : Sizes} (z : Sized g sizes) (store ind : List ℕ) (a : ℕ) {w : ℕ} (e : Entry) {sound : Bool} (is : w ≡ stored_word (tables store ind) a)
-    (found : sound ≡ (eqb w empty_word || ltb w sizes.patterns)) where
-  bad : {b : Bool} → sound ≡ b → bad_entry g (tables store ind) a ≡ not b
-  bad n = entry-bad z store ind a w is ∙ rw (← found, n)
-
-  pub replace-refused : {why : Refusal} → refused_if BadEntry (not sound) ≡ Err why → left (Err why) store ind [] ≡ replacing g (tables store ind) a e
+module _ (g : Geometry) (store ind : List ℕ) (a : ℕ) (e : Entry) where
+  pub replace-refused : {why : Refusal} → Err why ≡ cond (bad_entry g (tables store ind) a) (Err BadEntry) (Ok (stored_entry g (tables store ind) a))
+      → left (Err why) store ind [] ≡ replacing g (tables store ind) a e
   unfolding replacing
-  replace-refused given = let stop = refuses sound given in rw (stop.1, bad stop.0)
+  replace-refused given = let there = bad-there _ _ given in rw (there.0, there.1)
 
   -- x is the former entry and v the code's word of e; i₁ and i₂ are the indicators with bits set and then cleared, `after` the store
-  pub replace-done : (x : Option ℕ) {u : Unit {0}} {v : ℕ} {i₁ i₂ after : List ℕ} → refused_if BadEntry (not sound) ≡ Ok u
-      → entry_for x ≡ cond (ltb w sizes.patterns) (pattern w) empty → i₁ ≡ change set_bit g (set_of g a) (entry_rows g e) ind
+  pub replace-done : (x : Option ℕ) {v : ℕ} {i₁ i₂ after : List ℕ} → Ok (entry_for x) ≡ cond (bad_entry g (tables store ind) a) (Err BadEntry) (Ok (stored_entry g (tables store ind) a))
+      → i₁ ≡ change set_bit g (set_of g a) (entry_rows g e) ind
       → i₂ ≡ change clear_bit g (set_of g a) (keep (is_released g (store_cover g (tables store [])) a (entry_rows g e)) (entry_rows g (entry_for x))) i₁
       → v ≡ word_of e → after ≡ set store a v → left (Ok (Held x)) after i₂ [] ≡ replacing g (tables store ind) a e
   unfolding replacing replaced moved
-  replace-done x given ex e₁ e₂ ev e₃ = rw (bad (passes sound given), e₃, e₂, e₁, ex, entry-held z store ind a w is, ev)
+  replace-done x given e₁ e₂ ev e₃ = let there = held-there _ _ given in rw (there.0, e₃, e₂, e₁, there.1, ev)

@@ -94,7 +94,7 @@ impl Target<'_> {
     }
 
     // Clears, of the rows of the former entry, those that are released. Its walk is not that of `set_rows`: one for both would take a test
-    // that is always true there, as a closure.
+    // that is always true there, as a closure; and of an iterator over rows see `Layout::row`.
     fn clear_released(&self, indicators: &mut [u64], previous: Entry, next: Entry)
         requires { length indicators.old ≡ indicator_words self.now.layout.geometry }
         ensures { indicators.new ≡ change clear_bit self.now.layout.geometry (set_of self.now.layout.geometry self.now.address.0) (keep (released self.now (entry_for next)) (entry_rows self.now.layout.geometry (entry_for previous))) indicators.old }
@@ -113,7 +113,7 @@ impl Target<'_> {
 }
 
 // An entry comes to the address: its rows are set, those given up are cleared, and then the store holds it. Gives the former
-// entry, or refusal 5.
+// entry, or refusal 5. Store and indicators are two, since both change: `Tables` are to be read.
 pub fn replace(
     layout: Layout,
     store: &mut [u32],
@@ -124,12 +124,7 @@ pub fn replace(
     requires { Lent layout.geometry layout.sizes (length store.old) (length indicators.old) × (address.0 < layout.geometry.depth) }
     ensures { left (ok_map Held result) store.new indicators.new [] ≡ replacing layout.geometry (tables store.old indicators.old) address.0 (entry_for next) }
 {
-    let word = address.word(store);
-    checks::row(
-        Refusal::BadEntry,
-        !calls::is_sound(word, layout.sizes.patterns),
-    )?;
-    let previous = calls::entry_of(word, layout.sizes.patterns);
+    let previous = calls::entry_at(layout, store, address)?;
     let target = Target {
         layout,
         store,

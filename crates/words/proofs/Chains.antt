@@ -7,7 +7,8 @@ use Rattle.std.specs.Fn.{Called}
 use Rattle.std.specs.Iterator.{YieldsThen, CallableAtEachTurn}
 use Rattle.std.specs.List.{range_with_len, list_any, FoldsTo}
 use Rattle.std.specs.Option.{MatchOption}
-use Rattle.std.proofs.lemmas.Iterator.{YieldsList}
+use Rattle.std.proofs.iter.Yields.{nat_range_steps}
+use Rattle.std.proofs.lemmas.Iterator.{YieldsList, YieldsList-from_range}
 use Rattle.std.proofs.lemmas.Iterator.Adapters.{serves_from_places}
 use Rattle.std.proofs.lemmas.Iterator.Search.{any_from_yields_List}
 use Rattle.std.proofs.lemmas.List.FromFn.{length-range_with_len, get_or-range_with_len}
@@ -25,6 +26,10 @@ any-of-range : (r : ℕ → Bool) (n : ℕ) → list_any r (range_with_len 0 n) 
 unfolding any
 any-of-range r zero = refl
 any-of-range r (suc n) = any-last r n 0 ∙ rw (any-of-range r n, zero-add)
+
+-- the numbers below b, which is n
+pub numbers-below : {b n : ℕ} → b ≡ n → YieldsList nat_range_steps (λ x. x) (record { start = 0; end = b }) (range_with_len 0 n)
+numbers-below {b} {n} e = YieldsList-from_range 0 b n refl (omega (arith, e))
 
 -- `number` tells the number of an item
 module _ {S A : Type 0} {steps : S → Option A → S → Type 0} {number : A → ℕ} {s : S} (n : ℕ) (items : YieldsList steps number s (range_with_len 0 n)) where

@@ -5,7 +5,8 @@ ghost use Rattle.std.specs.Prelude.{◌<◌, ◌≤◌, ◌≡◌, length};
 ghost use Rattle.words.specs.Rules.{count};
 ghost use Rattle.words.specs.Bits.{bit, put_bit, clear_bit, change_bit, row_mask, total_ones};
 
-// Bit `bit` of word `at` becomes `value`. The address or the set whose bit it is shows what is asked, with what it was asked itself.
+// Bit `bit` of word `at` becomes `value`. The address or the set whose bit it is shows what is asked, with what it was asked itself. A
+// bit's number is no type of its own here and below: whoever has one would make it in one line to be taken apart in the next.
 pub fn put_bit(words: &mut [u64], at: usize, bit: u32, value: bool)
     requires { (at < length words.old) × (bit < 64) }
     ensures { words.new ≡ change_bit (put_bit value) words.old at bit }
@@ -47,7 +48,7 @@ pub fn row_mask(places: usize, word: usize) -> u64
 }
 
 // The ones of a word.
-fn ones(word: u64) -> u32
+pub fn ones(word: u64) -> u32
     ensures { result ≡ count 64 (bit word) }
 {
     word.count_ones()

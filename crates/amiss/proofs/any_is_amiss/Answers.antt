@@ -1,5 +1,5 @@
 -- `amiss::any_is_amiss` meets its contract: it asks each address.
-use Rattle.std.proofs.Common.{rules, tests}
+use Rattle.std.proofs.Common.{refl, rules, tests}
 use Rattle.words.proofs.Chains.{any-of-items, each-item}
 use Rattle.places.proofs.Walking.{walk-items}
 use Rattle.calls.specs.Answers.{tables_in}
@@ -8,10 +8,10 @@ use Rattle.amiss.proofs.any_is_amiss.Goals as goal
 
 pub any-requires-clause-callable : goal.any-requires-clause-callable
 any-requires-clause-callable c =
-    each-item c.args.tables.now.layout.geometry.depth (walk-items _ _ _ _ _ c.all.ensures) (λ x q r. search rules) (λ x h. search rules)
+    each-item c.args.tables.now.layout.geometry.depth (walk-items _ _ _ _ _ _ c.all.ensures refl) (λ x q r. search rules) (λ x h. search rules)
 
 pub returns : goal.returns
 returns c =
     let t = c.args.tables.now in
-    any-of-items t.layout.geometry.depth (walk-items _ _ _ _ _ c.all.ensures) (is_amiss t.layout.geometry (tables_in t)) _ _ _ c.any.ensures.ran
+    any-of-items t.layout.geometry.depth (walk-items _ _ _ _ _ _ c.all.ensures refl) (is_amiss t.layout.geometry (tables_in t)) _ _ _ c.any.ensures.ran
     (λ x b q k. search (rules, tests))

@@ -5,17 +5,17 @@ use Rattle.amiss.specs.Amiss.{lacks}
 use Rattle.amiss.proofs.Found.{amiss-bad, amiss-lacks}
 use Rattle.amiss.proofs.is_amiss.Goals as goal
 
-pub returns-then-not-is_sound : goal.returns-then-not-is_sound
-returns-then-not-is_sound c = amiss-bad c.args.tables.now _ _ c.word-word.ensures c.is_sound.ensures c.if-not-is_sound.true
-
-pub returns-in-None : goal.returns-in-None
-unfolding lacks
-returns-in-None c = amiss-lacks c.args.tables.now _ _ c.word-word.ensures c.is_sound.ensures c.if-not-is_sound.false None c.in-None.ensures
-
 pub lacks_bit-requires : goal.lacks_bit-requires
 lacks_bit-requires c = let l = c.args.tables.now.layout in set-within l.geometry l.sized.is-valid c.requires c.set.ensures
 
-pub returns-in-Some : goal.returns-in-Some
-returns-in-Some c =
+pub returns-in-Err : goal.returns-in-Err
+returns-in-Err c = amiss-bad c.args.tables.now _ (c.in-Err.ensures c.args.tables.now.indicators.now)
+
+pub returns-in-Ok-None : goal.returns-in-Ok-None
+unfolding lacks
+returns-in-Ok-None c = amiss-lacks c.args.tables.now _ None (rw c.in-Ok-None.field-0-is at (c.in-Ok-None.ensures c.args.tables.now.indicators.now))
+
+pub returns-in-Ok-Some : goal.returns-in-Ok-Some
+returns-in-Ok-Some c =
     rw (c.lacks_bit.ensures, c.set.ensures)
-    (amiss-lacks c.args.tables.now _ _ c.word-word.ensures c.is_sound.ensures c.if-not-is_sound.false (Some c.in-Some.held) c.in-Some.ensures)
+    (amiss-lacks c.args.tables.now _ (Some c.in-Ok-Some.held) (rw c.in-Ok-Some.field-0-is at (c.in-Ok-Some.ensures c.args.tables.now.indicators.now)))

@@ -13,14 +13,14 @@ use Rattle.collect.proofs.any_is_false.Goals as goal
 pub any-requires-clause-callable : goal.any-requires-clause-callable
 any-requires-clause-callable c =
     let t = c.args.tables.now in
-    each-item (row_words t.layout.geometry) (walk-items _ _ _ _ _ (c.all.ensures.0, c.all.ensures.1 ∙ t.lent.sized.same-words))
+    each-item (row_words t.layout.geometry) (walk-items _ _ _ _ _ _ c.all.ensures t.lent.sized.same-words)
     (λ x q r. search rules) (λ x h. search (rules, h))
 
 pub returns-then-eq : goal.returns-then-eq
 returns-then-eq c =
     let t = c.args.tables.now in
     let g = t.layout.geometry in
-    any-of-items (row_words g) (walk-items _ _ _ _ _ (c.all.ensures.0, c.all.ensures.1 ∙ t.lent.sized.same-words)) (false_in g (tables_in t) c.args.key)
+    any-of-items (row_words g) (walk-items _ _ _ _ _ _ c.all.ensures t.lent.sized.same-words) (false_in g (tables_in t) c.args.key)
     _ _ _ c.any.ensures.ran (λ x b q k. search (rules, tests))
     ∙ sym (by-words g (tables_in t) c.args.key (facts g t.lent.sized.is-valid))
 

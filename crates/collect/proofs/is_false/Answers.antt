@@ -23,7 +23,7 @@ stored t s o set offset a e =
 pub any-requires-clause-callable : goal.any-requires-clause-callable
 any-requires-clause-callable c =
     let t = c.args.tables.now in
-    each-item (set_length t.layout.geometry c.args.set.0) (walk-items _ _ _ _ _ (c.offsets.ensures.0, c.offsets.ensures.1 ∙ c.length.ensures))
+    each-item (set_length t.layout.geometry c.args.set.0) (walk-items _ _ _ _ _ _ c.offsets.ensures c.length.ensures)
     (λ x q r. search rules) (λ x h. grind (arith, stored t c.args.set.0 _ c.requires.1 h))
 
 pub returns : goal.returns
@@ -31,6 +31,6 @@ returns c =
     let t = c.args.tables.now in
     let equal = equal_at t.layout.geometry (tables_in t) c.args.key c.args.set.0 in
     ap not
-    (any-of-items (set_length t.layout.geometry c.args.set.0) (walk-items _ _ _ _ _ (c.offsets.ensures.0, c.offsets.ensures.1 ∙ c.length.ensures)) equal _ _ _ c.any.ensures.ran
+    (any-of-items (set_length t.layout.geometry c.args.set.0) (walk-items _ _ _ _ _ _ c.offsets.ensures c.length.ensures) equal _ _ _ c.any.ensures.ran
     (λ x b q k. search (rules, tests)))
     ∙ sym (set-false t.layout.geometry (tables_in t) c.args.key (kind-segmented t.layout c.requires.0) c.args.set.0)

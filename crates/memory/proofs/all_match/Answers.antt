@@ -18,7 +18,7 @@ use Rattle.checks.specs.Checks.{checked_tables}
 use Rattle.checks.proofs.Rows.{Reaches, row-stops, row-passes}
 use Rattle.calls.specs.Answers.{tables}
 use Rattle.collect.proofs.Marking.{length_marked}
-use Rattle.memory.proofs.Decided.{call-stops, call-reaches, pattern-stops, pattern-passes}
+use Rattle.memory.proofs.Decided.{tables-left, call-reaches, pattern-stops, pattern-passes}
 use Rattle.memory.proofs.Outcomes.{refused-left, rest-left, matched-left}
 use Rattle.memory.proofs.all_match.Goals as goal
 use Rattle.memory.proofs.all_match.Goals.{In_ok-tables, In_ok-match_word, In_ok-pattern, In_ok-row}
@@ -31,7 +31,7 @@ lengths-passed g t key m e = call-reaches g t (all_match key m) e
 
 pub returns-in_err-tables : goal.returns-in_err-tables
 unfolding lent
-returns-in_err-tables c = refused-left _ _ _ (all_match _ _) _ _ _ c.from_residual.ensures (call-stops _ _ (all_match _ _) c.in_err-tables.ensures.given)
+returns-in_err-tables c = tables-left _ _ _ (all_match _ _) _ _ _ c.from_residual.ensures c.in_err-tables.ensures.given
 
 pub returns-in_err-match_word : goal.returns-in_err-match_word
 unfolding lent

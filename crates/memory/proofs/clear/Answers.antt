@@ -7,13 +7,13 @@ use Rattle.reference.specs.Calls.{clear, lent}
 use Rattle.reference.specs.Steps.{bad_matches, own_refusals, outcome}
 use Rattle.calls.specs.Answers.{tables, left}
 use Rattle.calls.specs.declared.Answer.TheVariants.{Cleared}
-use Rattle.memory.proofs.Decided.{call-stops, plain-reaches, call-lent}
-use Rattle.memory.proofs.Outcomes.{refused-left, rest-left, cleared-left}
+use Rattle.memory.proofs.Decided.{tables-left, plain-reaches, call-lent}
+use Rattle.memory.proofs.Outcomes.{rest-left, cleared-left}
 use Rattle.memory.proofs.clear.Goals as goal
 
 pub returns-in_err-tables : goal.returns-in_err-tables
 unfolding lent
-returns-in_err-tables c = refused-left _ _ _ clear _ _ _ c.from_residual.ensures (call-stops _ _ clear c.in_err-tables.ensures.given)
+returns-in_err-tables c = tables-left _ _ _ clear _ _ _ c.from_residual.ensures c.in_err-tables.ensures.given
 
 pub returns : goal.returns
 unfolding bad_matches own_refusals outcome first_refusal

@@ -12,7 +12,7 @@ use Rattle.checks.specs.Checks.{ok_map, checked_tables}
 use Rattle.checks.proofs.Rows.{Reaches}
 use Rattle.calls.specs.Answers.{tables}
 use Rattle.calls.specs.declared.Answer.TheVariants.{Searched}
-use Rattle.memory.proofs.Decided.{call-stops, plain-reaches, pattern-stops, pattern-passes}
+use Rattle.memory.proofs.Decided.{tables-left, plain-reaches, pattern-stops, pattern-passes}
 use Rattle.memory.proofs.Outcomes.{refused-left, rest-left, first-left}
 use Rattle.memory.proofs.first_match.Goals as goal
 
@@ -24,7 +24,7 @@ lengths-passed g t key e = plain-reaches g t (first_match key) refl e
 
 pub returns-in_err-tables : goal.returns-in_err-tables
 unfolding lent
-returns-in_err-tables c = refused-left _ _ _ (first_match _) _ _ _ c.from_residual.ensures (call-stops _ _ (first_match _) c.in_err-tables.ensures.given)
+returns-in_err-tables c = tables-left _ _ _ (first_match _) _ _ _ c.from_residual.ensures c.in_err-tables.ensures.given
 
 pub returns-in_err-pattern : goal.returns-in_err-pattern
 unfolding lent

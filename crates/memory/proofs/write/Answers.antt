@@ -6,14 +6,14 @@ use Rattle.reference.specs.Refusals.{bad_pattern}
 use Rattle.reference.specs.Steps.{bad_matches, bad_entry, own_refusals, refusals, accepted}
 use Rattle.checks.proofs.Rows.{Reaches}
 use Rattle.calls.specs.Answers.{tables}
-use Rattle.memory.proofs.Decided.{call-stops, call-lent, address-stops, address-passes, pattern-stops, pattern-passes}
+use Rattle.memory.proofs.Decided.{tables-left, call-lent, address-stops, address-passes, pattern-stops, pattern-passes}
 use Rattle.memory.proofs.Outcomes.{refused-left, rest-left, replacing-left}
 use Rattle.memory.proofs.write.Goals as goal
 use Rattle.memory.proofs.write.Goals.{In_ok-row}
 
 pub returns-in_err-layout : goal.returns-in_err-layout
 unfolding lent
-returns-in_err-layout c = refused-left _ _ _ (write _ _) _ _ _ c.from_residual.ensures (call-stops _ _ (write _ _) c.in_err-layout.ensures.given)
+returns-in_err-layout c = tables-left _ _ _ (write _ _) _ _ _ c.from_residual.ensures c.in_err-layout.ensures.given
 
 -- then row 4 comes next, and the address is one
 address-passed : (c : In_ok-row) → Reaches (refusals c.args.g (tables c.args.store.now c.args.indicators.now) (write c.args.address.0 c.args.pattern))

@@ -1,7 +1,6 @@
 -- `stale::any_is_stale` meets its contract: it asks each stage.
-use Rattle.std.proofs.Common.{refl, rules, tests, arith}
-use Rattle.std.proofs.lemmas.Iterator.{YieldsList-from_range}
-use Rattle.words.proofs.Chains.{any-of-items}
+use Rattle.std.proofs.Common.{rules, tests}
+use Rattle.words.proofs.Chains.{any-of-items, numbers-below}
 use Rattle.geometry.specs.Stages.{stages}
 use Rattle.calls.specs.Answers.{tables_in}
 use Rattle.stale.specs.Stale.{stage_is_stale, any_is_stale}
@@ -12,5 +11,5 @@ unfolding any_is_stale
 returns c =
     let t = c.args.tables.now in
     let g = t.layout.geometry in
-    let each = YieldsList-from_range 0 t.layout.sizes.stages (stages g) refl (omega (arith, t.lent.sized.same-stages)) in
+    let each = numbers-below t.lent.sized.same-stages in
     any-of-items (stages g) each (stage_is_stale g (tables_in t)) _ _ _ c.any.ensures.ran (λ k b q found. search (rules, tests))

@@ -1,9 +1,8 @@
 -- `update::is_covered_by` meets its contract: a row is among a pattern's exactly when it is that of one of the stages.
-use Rattle.std.proofs.Common.{rules, tests, arith, refl, sym, ◌∙◌}
-use Rattle.std.proofs.lemmas.Iterator.{YieldsList-from_range}
+use Rattle.std.proofs.Common.{rules, tests, sym, ◌∙◌}
 use lib.Dec.{eqb}
 use Rattle.words.specs.Rules.{member}
-use Rattle.words.proofs.Chains.{any-of-items}
+use Rattle.words.proofs.Chains.{any-of-items, numbers-below}
 use Rattle.words.proofs.Rules.{member-tabulate}
 use Rattle.geometry.specs.Stages.{stages, row_of, rows_of}
 use Rattle.reference.specs.Image.{entry_rows, covers}
@@ -17,7 +16,7 @@ pub returns : goal.returns
 unfolding covers entry_rows rows_of
 returns c =
     let g = c.args.layout.geometry in
-    let items = YieldsList-from_range 0 c.args.layout.sizes.stages (stages g) refl (omega (arith, c.args.layout.sized.same-stages)) in
+    let items = numbers-below c.args.layout.sized.same-stages in
     rw c.in-Some.is
     (any-of-items _ items (λ k. eqb c.args.row (row_of g c.in-Some.pattern k)) _ _ _ c.any.ensures.ran (λ x b q k. search (rules, tests))
     ∙ sym (member-tabulate c.args.row (stages g) (row_of g c.in-Some.pattern)))

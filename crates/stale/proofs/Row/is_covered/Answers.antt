@@ -1,5 +1,5 @@
 -- `stale::Row::is_covered` meets its contract: it asks each offset of the set.
-use Rattle.std.proofs.Common.{rules, tests, sym, ◌∙◌}
+use Rattle.std.proofs.Common.{rules, tests, sym}
 use Rattle.words.proofs.Chains.{any-of-items, each-item}
 use Rattle.words.proofs.Rules.{outside-past, outside_below}
 use Rattle.geometry.specs.Sizes.{address_of, set_length}
@@ -21,12 +21,12 @@ pub any-requires-clause-callable : goal.any-requires-clause-callable
 any-requires-clause-callable c =
     let r = c.args.self.now in
     let is-set = outside_below c.is_outside.ensures r.tables.now.layout.sized.same-sets c.if-is_outside.false in
-    each-item (set_length (geometry_of r) c.args.set.0) (walk-items _ _ _ _ _ (c.offsets.ensures.0, c.offsets.ensures.1 ∙ c.length.ensures))
+    each-item (set_length (geometry_of r) c.args.set.0) (walk-items _ _ _ _ _ _ c.offsets.ensures c.length.ensures)
     (λ x q k. search rules) (λ x h. search rules)
 
 pub returns : goal.returns
 unfolding covered
 returns c =
     let r = c.args.self.now in
-    any-of-items (set_length (geometry_of r) c.args.set.0) (walk-items _ _ _ _ _ (c.offsets.ensures.0, c.offsets.ensures.1 ∙ c.length.ensures))
+    any-of-items (set_length (geometry_of r) c.args.set.0) (walk-items _ _ _ _ _ _ c.offsets.ensures c.length.ensures)
     (λ o. cover_of r (address_of (geometry_of r) c.args.set.0 o) (number r)) _ _ _ c.any.ensures.ran (λ x b q k. search (rules, tests))

@@ -1,5 +1,5 @@
 -- `stale::Row::is_stale` meets its contract: it asks each word of the row.
-use Rattle.std.proofs.Common.{rules, tests, ◌∙◌}
+use Rattle.std.proofs.Common.{rules, tests}
 use Rattle.words.proofs.Chains.{any-of-items, each-item}
 use Rattle.geometry.specs.Sizes.{row_words}
 use Rattle.places.proofs.Walking.{walk-items}
@@ -11,12 +11,12 @@ use Rattle.stale.proofs.Row.is_stale.Goals as goal
 pub any-requires-clause-callable : goal.any-requires-clause-callable
 any-requires-clause-callable c =
     let r = c.args.self.now in
-    each-item (row_words (geometry_of r)) (walk-items _ _ _ _ _ (c.all.ensures.0, c.all.ensures.1 ∙ r.tables.now.layout.sized.same-words))
+    each-item (row_words (geometry_of r)) (walk-items _ _ _ _ _ _ c.all.ensures r.tables.now.layout.sized.same-words)
     (λ x q k. search rules) (λ x h. search rules)
 
 pub returns : goal.returns
 unfolding row_is_stale
 returns c =
     let r = c.args.self.now in
-    any-of-items (row_words (geometry_of r)) (walk-items _ _ _ _ _ (c.all.ensures.0, c.all.ensures.1 ∙ r.tables.now.layout.sized.same-words))
+    any-of-items (row_words (geometry_of r)) (walk-items _ _ _ _ _ _ c.all.ensures r.tables.now.layout.sized.same-words)
     (word_is_stale (geometry_of r) (tables_in r.tables.now) (number r)) _ _ _ c.any.ensures.ran (λ x b q k. search (rules, tests))

@@ -14,13 +14,13 @@ pub any-requires-clause-callable : goal.any-requires-clause-callable
 any-requires-clause-callable c =
     let t = c.args.self.now in
     let length = set_length t.layout.geometry c.set-set.result.0 in
-    each-item length (walk-items _ _ _ _ _ (c.offsets.ensures.0, c.offsets.ensures.1 ∙ c.length.ensures)) (λ x q r. search rules)
+    each-item length (walk-items _ _ _ _ _ _ c.offsets.ensures c.length.ensures) (λ x q r. search rules)
     (λ x h. grind (arith, set-there t c.set-set.ensures, address-there t c.set-set.ensures x.0 h))
 
 pub returns : goal.returns
 returns c =
     let t = c.args.self.now in
     let length = set_length t.layout.geometry c.set-set.result.0 in
-    any-of-items length (walk-items _ _ _ _ _ (c.offsets.ensures.0, c.offsets.ensures.1 ∙ c.length.ensures)) (other_covers t c.set-set.ensures c.args.row)
+    any-of-items length (walk-items _ _ _ _ _ _ c.offsets.ensures c.length.ensures) (other_covers t c.set-set.ensures c.args.row)
     _ _ _ c.any.ensures.ran (λ x b q k. (search rules, search (rules, tests)))
     ∙ all-others t c.set-set.ensures c.args.row

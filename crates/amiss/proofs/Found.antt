@@ -1,23 +1,20 @@
 -- What the code finds at an address: its word is neither empty nor a pattern, or else what its entry lacks.
-use Rattle.std.proofs.Common.{ℕ, ◌≡◌, true, cond, Option, Ok, Err}
+use Rattle.std.proofs.Common.{ℕ, ◌≡◌, true, Option, Ok, Err}
 use Rattle.geometry.specs.Sizes.{set_of}
-use Rattle.reference.specs.Tables.{stored_entry}
-use Rattle.reference.specs.Steps.{bad_entry}
 use Rattle.checks.specs.declared.lent.Tables.{Tables}
 use Rattle.checks.specs.declared.Refusal.{Refusal}
-use Rattle.checks.specs.declared.Refusal.TheVariants.{BadEntry}
-use Rattle.calls.specs.Answers.{tables_in, entry_for}
+use Rattle.calls.specs.Answers.{tables_in, entry_for, checked_entry}
 use Rattle.calls.proofs.Tested.{bad-there, held-there}
 use Rattle.amiss.specs.Amiss.{lacks, is_amiss}
 
 module _ (t : Tables) (a : ℕ) where
-  pub amiss-bad : {why : Refusal} → Err why ≡ cond (bad_entry t.layout.geometry (tables_in t) a) (Err BadEntry) (Ok (stored_entry t.layout.geometry (tables_in t) a))
+  pub amiss-bad : {why : Refusal} → Err why ≡ checked_entry t.layout.geometry (tables_in t) a
       → true ≡ is_amiss t.layout.geometry (tables_in t) a
   unfolding is_amiss
   amiss-bad given = rw ((bad-there _ _ given).0)
 
   -- x is the code's entry there
-  pub amiss-lacks : (x : Option ℕ) → Ok (entry_for x) ≡ cond (bad_entry t.layout.geometry (tables_in t) a) (Err BadEntry) (Ok (stored_entry t.layout.geometry (tables_in t) a))
+  pub amiss-lacks : (x : Option ℕ) → Ok (entry_for x) ≡ checked_entry t.layout.geometry (tables_in t) a
       → lacks t.layout.geometry t.indicators.now (set_of t.layout.geometry a) (entry_for x) ≡ is_amiss t.layout.geometry (tables_in t) a
   unfolding is_amiss
   amiss-lacks x given = let there = held-there _ _ given in rw (there.0, there.1)

@@ -9,7 +9,7 @@ use Rattle.sizes.specs.SizesOf.{Sized}
 use Rattle.checks.specs.declared.Refusal.{Refusal}
 use Rattle.checks.specs.declared.Refusal.TheVariants.{BadEntry}
 use Rattle.checks.specs.Checks.{refused_if}
-use Rattle.calls.specs.Answers.{tables, entry_for}
+use Rattle.calls.specs.Answers.{tables, entry_for, checked_entry}
 
 -- w is the word that the store has at address a
 module _ {g : Geometry} {z : Sizes} (f : Sized g z) (s i : List ℕ) (a w : ℕ) (is : w ≡ stored_word (tables s i) a) where
@@ -27,7 +27,7 @@ module _ {g : Geometry} {z : Sizes} (f : Sized g z) (s i : List ℕ) (a w : ℕ)
     bad = entry-bad ∙ ap not (sym tested)
 
     pub entry-refused : {why : Refusal} → Err why ≡ refused_if BadEntry (not sound)
-        → ◌≡◌ {A = Result Entry Refusal} (Err why) (cond (bad_entry g (tables s i) a) (Err BadEntry) (Ok (stored_entry g (tables s i) a)))
+        → Err why ≡ checked_entry g (tables s i) a
     entry-refused {why} e = rw bad (go sound e)
       where
         go : (b : Bool) → Err why ≡ refused_if BadEntry (not b) → ◌≡◌ {A = Result Entry Refusal} (Err why) (cond (not b) (Err BadEntry) (Ok (stored_entry g (tables s i) a)))
@@ -36,7 +36,7 @@ module _ {g : Geometry} {z : Sizes} (f : Sized g z) (s i : List ℕ) (a w : ℕ)
 
     -- x is the code's entry there
     pub entry-given : {u : Unit {0}} → Ok u ≡ refused_if BadEntry (not sound) → (x : Option ℕ) → entry_for x ≡ cond (ltb w z.patterns) (pattern w) empty
-        → ◌≡◌ {A = Result Entry Refusal} (Ok (entry_for x)) (cond (bad_entry g (tables s i) a) (Err BadEntry) (Ok (stored_entry g (tables s i) a)))
+        → Ok (entry_for x) ≡ checked_entry g (tables s i) a
     entry-given {u} e x holds = rw (bad, holds ∙ entry-held) (go sound e)
       where
         go : (b : Bool) → Ok u ≡ refused_if BadEntry (not b)

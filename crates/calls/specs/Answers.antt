@@ -1,14 +1,15 @@
 -- What the code's entries, calls and answers stand for: those of the reference, with the numbers and values of docs/MEMORY.md
 -- (sections 7 and 9).
-use Rattle.std.specs.Prelude.{ℕ, ◌≡◌, List, Option, Some, None, Result, Ok, Err}
+use Rattle.std.specs.Prelude.{ℕ, ◌≡◌, cond, List, Option, Some, None, Result, Ok, Err}
 use Rattle.geometry.specs.declared.Geometry.{Geometry}
 use Rattle.reference.specs.Entry as entries
 use Rattle.reference.specs.Entry.{empty, pattern}
 use Rattle.reference.specs.Calls.{clear, write, erase, read, first_match, all_match, refused, cleared, held, at, none, matched, matches_after}
 use Rattle.reference.specs.Calls as calls
-use Rattle.reference.specs.Tables.{Tables}
-use Rattle.reference.specs.Steps.{Outcome, step}
+use Rattle.reference.specs.Tables.{Tables, stored_entry}
+use Rattle.reference.specs.Steps.{Outcome, bad_entry, step}
 use Rattle.checks.specs.declared.Refusal.{Refusal}
+use Rattle.checks.specs.declared.Refusal.TheVariants.{BadEntry}
 use Rattle.checks.specs.declared.lent.Tables as lent-tables
 use Rattle.checks.specs.Checks.{number_of}
 use Rattle.calls.specs.declared.Call.{Call}
@@ -20,6 +21,10 @@ use Rattle.calls.specs.declared.Search.{Search}
 abbrev pub entry_for : Option ℕ → entries.Entry
 entry_for None = empty
 entry_for (Some p) = pattern p
+
+-- Refusal 5, or the entry of an address.
+abbrev pub checked_entry : Geometry → Tables → (a : ℕ) → Result entries.Entry Refusal
+checked_entry g t a = cond (bad_entry g t a) (Err BadEntry) (Ok (stored_entry g t a))
 
 -- The call, where a match word is lent.
 abbrev pub call_for : Call → (lent : List ℕ) → calls.Call (List ℕ)

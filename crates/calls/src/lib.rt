@@ -1,13 +1,10 @@
 // A call, the answer to it and the entries in it, as the code has them; and entries as words of the store.
 #![tactic(auto)]
 
-ghost use Rattle.std.specs.Prelude.{ℕ, ◌<◌, ◌≡◌, cond, ◌||◌, List, length, eqb, ltb, Ok, Err};
+ghost use Rattle.std.specs.Prelude.{ℕ, ◌<◌, ◌≡◌, cond, ◌||◌, List, length, eqb, ltb};
 ghost use Rattle.reference.specs.Entry.{empty, pattern, empty_word, word_of};
-ghost use Rattle.reference.specs.Tables.{stored_entry};
-ghost use Rattle.reference.specs.Steps.{bad_entry};
 ghost use Rattle.checks.specs.Checks.{ok_map};
-ghost use Rattle.checks.specs.declared.Refusal.TheVariants.{BadEntry};
-ghost use Rattle.calls.specs.Answers.{entry_for, tables};
+ghost use Rattle.calls.specs.Answers.{entry_for, checked_entry, tables};
 
 use checks::Refusal;
 use places::Address;
@@ -71,7 +68,7 @@ pub fn entry_of(word: u32, patterns: u32) -> Entry
 // What an address of the store holds, or refusal 5. The indicators do not matter for either.
 pub fn entry_at(layout: Layout, store: &[u32], address: Address) -> Result<Entry, Refusal>
     requires { address.0 < length store.now }
-    ensures { (indicators : List ℕ) → ok_map entry_for result ≡ cond (bad_entry layout.geometry (tables store.now indicators) address.0) (Err BadEntry) (Ok (stored_entry layout.geometry (tables store.now indicators) address.0)) }
+    ensures { (indicators : List ℕ) → ok_map entry_for result ≡ checked_entry layout.geometry (tables store.now indicators) address.0 }
 {
     let word = address.word(store);
     let patterns = layout.sizes.patterns;

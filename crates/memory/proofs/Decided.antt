@@ -1,4 +1,4 @@
--- Rows 1 and 2 of the table at a call, by the check of its tables, and which rows are then reached.
+-- Rows 1 to 4 of the table at a call: what stops it, and which rows are reached behind each.
 use Rattle.std.proofs.Common.{ℕ, ◌<◌, ◌≡◌, refl, Bool, false, List, ◌∷◌, length, Result, Ok, Err}
 use mathlib.Core.Option.{some}
 use lib.Dec.{leb}

@@ -19,14 +19,13 @@ use Rattle.reference.specs.Search.{Found, hit, nothing, false_set, is_false, ans
 use Rattle.reference.specs.Steps.{bad_entry, accepted, clear_tables, refusals, outcome, step}
 use Rattle.sizes.specs.declared.Sizes.{Sizes}
 use Rattle.checks.specs.declared.Refusal.{Refusal}
-use Rattle.checks.specs.declared.Refusal.TheVariants.{BadEntry}
 use Rattle.checks.specs.Checks.{number_of, ok_map}
 use Rattle.checks.specs.Passed.{Lent}
 use Rattle.checks.proofs.Acceptance.{handed-on}
 use Rattle.checks.proofs.Rows.{Reaches}
 use Rattle.calls.specs.declared.Answer.{Answer}
 use Rattle.calls.specs.declared.Answer.TheVariants.{Cleared, Held, Matched}
-use Rattle.calls.specs.Answers.{entry_for, answer_for, tables, left}
+use Rattle.calls.specs.Answers.{entry_for, checked_entry, answer_for, tables, left}
 use Rattle.calls.proofs.Tested.{bad-there, held-there}
 use Rattle.update.specs.Replacing.{replacing}
 use Rattle.collect.specs.Marks.{marked}
@@ -63,8 +62,7 @@ replacing-left g t a e c bare does = go (bad_entry g t a)
     go false = sym does
 
 -- Read, with row 5; r is what the code gives of the address.
-pub read-left : (g : Geometry) (s i : List ℕ) (a : ℕ) (r : Result (Option ℕ) Refusal)
-    → ok_map entry_for r ≡ cond (bad_entry g (tables s i) a) (Err BadEntry) (Ok (stored_entry g (tables s i) a))
+pub read-left : (g : Geometry) (s i : List ℕ) (a : ℕ) (r : Result (Option ℕ) Refusal) → ok_map entry_for r ≡ checked_entry g (tables s i) a
     → left (ok_map Held r) s i [] ≡ outcome g (tables s i) (read a) (first_refusal (5 given-when bad_entry g (tables s i) a ∷ []))
 unfolding outcome first_refusal accepted lent
 read-left g s i a (Err why) is = let there = bad-there _ _ is in rw (there.0, there.1)

@@ -2,7 +2,7 @@
 -- set of the address that another entry comes to; and what `replace` makes of it.
 use Prim.Native.Nat.{ℕ, ◌+◌, ◌*◌, ◌/◌, ◌%◌, ◌<◌}
 use mathlib.Core.Path.{◌≡◌}
-use mathlib.Core.Bool.{Bool, true, false, cond, not, ◌&&◌}
+use mathlib.Core.Bool.{Bool, true, false, not, ◌&&◌}
 use mathlib.Core.List.{List, [], ◌∷◌}
 use Rattle.std.specs.Prelude.{Option, Ok, Err}
 use lib.Dec.{eqb}
@@ -17,16 +17,13 @@ use Rattle.geometry.proofs.Places.{address-lt}
 use Rattle.geometry.proofs.Stages.{rows_drop}
 use Rattle.cover.specs.Change.{change, others_cover, is_released, moved}
 use Rattle.reference.specs.Entry.{Entry, word_of}
-use Rattle.reference.specs.Tables.{stored_entry}
 use Rattle.reference.specs.Image.{entry_rows, store_cover}
 use Rattle.reference.specs.Update.{replaced}
-use Rattle.reference.specs.Steps.{bad_entry}
 use Rattle.sizes.specs.declared.Sizes.{Sizes}
 use Rattle.sizes.specs.SizesOf.{Sized}
 use Rattle.checks.specs.declared.Refusal.{Refusal}
-use Rattle.checks.specs.declared.Refusal.TheVariants.{BadEntry}
 use Rattle.calls.specs.declared.Answer.TheVariants.{Held}
-use Rattle.calls.specs.Answers.{entry_for, tables, left}
+use Rattle.calls.specs.Answers.{entry_for, checked_entry, tables, left}
 use Rattle.calls.proofs.Indexed.{place-within, set-within}
 use Rattle.calls.proofs.Tested.{bad-there, held-there}
 use Rattle.update.specs.declared.Target.{Target}
@@ -102,13 +99,13 @@ module _ (t : Target) {s : ℕ} (is : s ≡ set_of t.layout.geometry t.address.0
 -- ---- an entry comes to an address
 
 module _ (g : Geometry) (store ind : List ℕ) (a : ℕ) (e : Entry) where
-  pub replace-refused : {why : Refusal} → Err why ≡ cond (bad_entry g (tables store ind) a) (Err BadEntry) (Ok (stored_entry g (tables store ind) a))
+  pub replace-refused : {why : Refusal} → Err why ≡ checked_entry g (tables store ind) a
       → left (Err why) store ind [] ≡ replacing g (tables store ind) a e
   unfolding replacing
   replace-refused given = let there = bad-there _ _ given in rw (there.0, there.1)
 
   -- x is the former entry and v the code's word of e; i₁ and i₂ are the indicators with bits set and then cleared, `after` the store
-  pub replace-done : (x : Option ℕ) {v : ℕ} {i₁ i₂ after : List ℕ} → Ok (entry_for x) ≡ cond (bad_entry g (tables store ind) a) (Err BadEntry) (Ok (stored_entry g (tables store ind) a))
+  pub replace-done : (x : Option ℕ) {v : ℕ} {i₁ i₂ after : List ℕ} → Ok (entry_for x) ≡ checked_entry g (tables store ind) a
       → i₁ ≡ change set_bit g (set_of g a) (entry_rows g e) ind
       → i₂ ≡ change clear_bit g (set_of g a) (keep (is_released g (store_cover g (tables store [])) a (entry_rows g e)) (entry_rows g (entry_for x))) i₁
       → v ≡ word_of e → after ≡ set store a v → left (Ok (Held x)) after i₂ [] ≡ replacing g (tables store ind) a e

@@ -10,7 +10,7 @@ use native.Mathlib.Numerals.{add-one}
 use native.Mathlib.Omega.{arith}
 use lib.Dec.{eqb, ltb}
 use lib.ListN.{length, drop, drop_of_length-le}
-use lib.Pow.{pow_pos, shr-shr, shr_mod, split, mod-pow-add, recompose}
+use lib.Pow.{pow_pos, mod-pow-add, recompose}
 use lib.Seq.{drop-cons}
 use borrow.Author.Tests.{ltb-true, ltb-false, lt-ltb, le-ltb, eqb-true, eq-eqb}
 use Rattle.words.specs.Rules.{member, tabulate}
@@ -53,19 +53,6 @@ module _ (g : Geometry) (f : Facts g) where
   pub width-last : (k : ℕ) → k + 1 ≡ stages g → stage_width g k ≡ g.pattern_width - 9 * k
   unfolding stage_width
   width-last k e = rw (le-ltb (k + 1) (stages g) (omega arith))
-
-  -- a pattern from stage k on: the stages above k and below them stage k, or the last stage alone
-  inner : (k p : ℕ) → k + 1 < stages g → p / 2 ^ (9 * k) ≡ p / 2 ^ (9 * suc k) * 512 + stage g k p
-  unfolding stage
-  inner k p h = rw (width-inner k h, mul-suc 9 k, ← shr-shr p (9 * k) 9) (sym (split (p / 2 ^ (9 * k)) 9))
-
-  last : (k p : ℕ) → k + 1 ≡ stages g → p < patterns g → p / 2 ^ (9 * k) ≡ stage g k p
-  unfolding stage patterns
-  last k p e h = rw (width-last k e) (sym (shr_mod (g.pattern_width - 9 * k) (9 * k) (rw (exact f.staged) h)))
-    where
-      exact : (stages g ≡ 1) ⊎ (9 * stages g < g.pattern_width + 9) → g.pattern_width - 9 * k + 9 * k ≡ g.pattern_width
-      exact (inl one) = omega arith
-      exact (inr many) = omega arith
 
   -- the last stage ends with the pattern
   last-ends : (k : ℕ) → k + 1 ≡ stages g → stage_width g k + 9 * k ≡ g.pattern_width

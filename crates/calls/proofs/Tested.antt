@@ -45,17 +45,10 @@ module _ {g : Geometry} {z : Sizes} (f : Sized g z) (s i : List ℕ) (a w : ℕ)
         go false e = absurd (cc)
 
 -- which of its two ways row 5 went
-module _ (b : Bool) (y : Entry) where
-  pub bad-there : {why : Refusal} → ◌≡◌ {A = Result Entry Refusal} (Err why) (cond b (Err BadEntry) (Ok y)) → (b ≡ true) × (why ≡ BadEntry)
-  bad-there {why} = go b
-    where
-      go : (b : Bool) → ◌≡◌ {A = Result Entry Refusal} (Err why) (cond b (Err BadEntry) (Ok y)) → (b ≡ true) × (why ≡ BadEntry)
-      go true e = (refl, cc)
-      go false e = absurd (cc)
+pub bad-there : (b : Bool) (y : Entry) {why : Refusal} → ◌≡◌ {A = Result Entry Refusal} (Err why) (cond b (Err BadEntry) (Ok y)) → (b ≡ true) × (why ≡ BadEntry)
+bad-there true y e = (refl, cc)
+bad-there false y e = absurd (cc)
 
-  pub held-there : {x : Entry} → ◌≡◌ {A = Result Entry Refusal} (Ok x) (cond b (Err BadEntry) (Ok y)) → (b ≡ false) × (x ≡ y)
-  held-there {x} = go b
-    where
-      go : (b : Bool) → ◌≡◌ {A = Result Entry Refusal} (Ok x) (cond b (Err BadEntry) (Ok y)) → (b ≡ false) × (x ≡ y)
-      go true e = absurd (cc)
-      go false e = (refl, cc)
+pub held-there : (b : Bool) (y : Entry) {x : Entry} → ◌≡◌ {A = Result Entry Refusal} (Ok x) (cond b (Err BadEntry) (Ok y)) → (b ≡ false) × (x ≡ y)
+held-there true y e = absurd (cc)
+held-there false y e = (refl, cc)

@@ -21,7 +21,7 @@ use Rattle.collect.proofs.Marking.{length_marked}
 use Rattle.memory.proofs.Decided.{tables-left, call-reaches, pattern-stops, pattern-passes}
 use Rattle.memory.proofs.Outcomes.{refused-left, rest-left, matched-left}
 use Rattle.memory.proofs.all_match.Goals as goal
-use Rattle.memory.proofs.all_match.Goals.{In_ok-tables, In_ok-match_word, In_ok-pattern, In_ok-row}
+use Rattle.memory.proofs.all_match.Goals.{In_ok-match_word}
 
 -- with tables of their lengths row 2 has still to look at the match word
 lengths-passed : (g : Geometry) (t : Tables) (key : ℕ) (m : List ℕ) {s : Sizes} → Ok s ≡ checked_tables g (length t.store) (length t.indicators)

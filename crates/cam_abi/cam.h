@@ -1,4 +1,4 @@
-/* The search memory in libcam_abi.a (`tools/build library`): its six calls, one that accepts tables to go on with, and two
+/* The search memory in libcam_abi.a (`tools/build library`): its seven calls, one that accepts tables to go on with, and two
  * functions that give the lengths of what is lent.
  *
  * GEOMETRY. Four numbers: the kind, 0 for transposed, 1 for cascaded and 2 for segmented; the depth, 1 to 4096; the pattern width,
@@ -30,7 +30,7 @@
  * 9 * k + 8, as far as it has them, and its row there is 512 * k + the value of these bits. So a pattern has one row, in kind 1 one
  * in each stage. From an accepted clear or resume on, a bit is 1 exactly where an address of its set holds a pattern that has its
  * row. The bits past the last set, which fill up the last word of each row, are padding: cam_clear makes them 0, cam_resume accepts
- * them as 0 alone, no other call changes them, and the answers of the six calls do not depend on them. */
+ * them as 0 alone, no other call changes them, and the answers of the seven calls do not depend on them. */
 #ifndef CAM_H
 #define CAM_H
 
@@ -50,16 +50,17 @@ enum cam_refusal {
     CAM_BAD_LENGTHS = 2,  /* the store, the indicators or the match word has another length than above */
     CAM_BAD_ADDRESS = 3,  /* the address is not below the depth */
     CAM_BAD_PATTERN = 4,  /* the pattern has more bits than the pattern width */
-    CAM_BAD_ENTRY = 5,    /* write, erase, read: the store has at the address neither CAM_EMPTY nor a pattern */
+    CAM_BAD_ENTRY = 5,    /* write, erase, read, but not next-match: the store has at the address neither CAM_EMPTY nor a pattern */
     CAM_FALSE_SET = 6,    /* kind 2: a set's bit is 1 in the pattern's row, and no address of the set holds the pattern; first-match
-                           * tests the first bit that is 1 alone, all-match every one */
+                           * tests the first bit that is 1 alone; next-match the first one after the bit of the address's own set,
+                           * and only where that set gave no address; all-match every one */
     CAM_BAD_TABLES = 10   /* resume: no history leaves these tables */
 };
 
 /* The store's number for an empty address. */
 #define CAM_EMPTY UINT32_C(4294967295)
 
-/* The address in the value of a first-match that found none. */
+/* The address in the value of a first-match or a next-match that found none. */
 #define CAM_NONE 65535u
 
 /* How many words the indicators of a geometry have, at most 262144. The only refusal is CAM_BAD_GEOMETRY. */
@@ -70,7 +71,7 @@ uint64_t cam_match_words(uint32_t kind, uint32_t depth, uint32_t pattern_width, 
 
 /* Whether tables can be gone on with, such as those read back from a board. They are accepted exactly where every number of the
  * store is CAM_EMPTY or a pattern and every bit of the indicators is as said above for the store as it is: 1 where an address of
- * its set holds a pattern that has its row, else 0, and 0 in the padding. After that the six calls answer and leave what they do
+ * its set holds a pattern that has its row, else 0, and 0 in the padding. After that the seven calls answer and leave what they do
  * after a clear and the calls that wrote those entries. The value is 0; the refusals are CAM_BAD_GEOMETRY, CAM_BAD_LENGTHS and
  * CAM_BAD_TABLES. */
 uint64_t cam_resume(uint32_t kind, uint32_t depth, uint32_t pattern_width, uint32_t set_width,
@@ -102,13 +103,24 @@ uint64_t cam_first_match(uint32_t kind, uint32_t depth, uint32_t pattern_width, 
                          const uint32_t *store, size_t store_len, const uint64_t *indicators, size_t indicators_len,
                          uint32_t pattern);
 
+/* The lowest address above a given one that holds a pattern. The value is the address, or CAM_NONE. What the store has at the given
+ * address does not matter; in kind 2 the addresses above it in its set are compared whatever the set's bit is. A program walks
+ * through all addresses that hold a pattern, ascending: cam_first_match, then cam_next_match from each one given, until CAM_NONE.
+ *
+ *     for (at = cam_first_match(.., pattern); at >= CAM_ACCEPTED && cam_address(at) != CAM_NONE;
+ *          at = cam_next_match(.., cam_address(at), pattern)) { .. } */
+uint64_t cam_next_match(uint32_t kind, uint32_t depth, uint32_t pattern_width, uint32_t set_width,
+                        const uint32_t *store, size_t store_len, const uint64_t *indicators, size_t indicators_len,
+                        uint32_t address, uint32_t pattern);
+
 /* Every address that holds a pattern: its bit of the match word is 1, and every other bit 0. The value is their number. */
 uint64_t cam_all_match(uint32_t kind, uint32_t depth, uint32_t pattern_width, uint32_t set_width,
                        const uint32_t *store, size_t store_len, const uint64_t *indicators, size_t indicators_len,
                        uint64_t *matches, size_t matches_len, uint32_t pattern);
 
-/* The parts of a first-match's result: the address or CAM_NONE, the row words read, the entries compared. Only for a result of
- * cam_first_match that is no refusal; of any other number they mean nothing. */
+/* The parts of a first-match's result: the address or CAM_NONE, the row words read, the entries compared. Of a next-match's result
+ * the first is the address or CAM_NONE too, and the others are 0, since it has no counts. Only for a result of these two that is no
+ * refusal; of any other number they mean nothing. */
 static inline uint32_t cam_address(uint64_t result) { return (uint32_t)((result - CAM_ACCEPTED) % 65536); }
 static inline uint32_t cam_words_read(uint64_t result) { return (uint32_t)((result - CAM_ACCEPTED) / 65536 % 65536); }
 static inline uint32_t cam_entries_compared(uint64_t result) { return (uint32_t)((result - CAM_ACCEPTED) >> 32); }

@@ -29,5 +29,6 @@ refusing! {
     cam_erase(*mut u32, usize, *mut u64, usize, u32);
     cam_read(*const u32, usize, *const u64, usize, u32);
     cam_first_match(*const u32, usize, *const u64, usize, u32);
+    cam_next_match(*const u32, usize, *const u64, usize, u32, u32);
     cam_all_match(*const u32, usize, *const u64, usize, *mut u64, usize, u32);
 }

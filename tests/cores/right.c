@@ -145,7 +145,7 @@ uint64_t cam_read(FOUR, READ, uint32_t address) {
     return entry != CAM_EMPTY && entry >> pattern_width ? CAM_BAD_ENTRY : CAM_ACCEPTED + (uint64_t)entry;
 }
 
-/* A result of first-match. */
+/* A result of first-match, and with no counts of next-match. */
 static uint64_t found(uint32_t address, uint32_t words, uint32_t compared) {
     return CAM_ACCEPTED + address + ((uint64_t)words << 16) + ((uint64_t)compared << 32);
 }
@@ -165,6 +165,26 @@ uint64_t cam_first_match(FOUR, READ, uint32_t pattern) {
         return CAM_FALSE_SET;
     }
     return found(CAM_NONE, last, 0);
+}
+
+/* The lowest address that holds the pattern, of those from one up to another; CAM_NONE if none does. */
+static uint32_t lowest(const struct memory *m, uint32_t from, uint32_t end, uint32_t pattern) {
+    for (uint32_t a = from; a < end; a++)
+        if (m->store[a] == pattern) return a;
+    return CAM_NONE;
+}
+
+uint64_t cam_next_match(FOUR, READ, uint32_t address, uint32_t pattern) {
+    BEGIN(address, pattern);
+    uint32_t own = address / set_width, at = lowest(&m, address + 1, (own + 1) * set_width, pattern);
+    if (at != CAM_NONE) return found(at, 0, 0);
+    for (uint32_t s = own + 1; s < depth / set_width; s++) {
+        if (!(indicated(&m, pattern, s / 64) >> s % 64 & 1)) continue;
+        if (kind != 2) return found(s, 0, 0);
+        at = lowest(&m, s * set_width, (s + 1) * set_width, pattern);
+        return at == CAM_NONE ? CAM_FALSE_SET : found(at, 0, 0);
+    }
+    return found(CAM_NONE, 0, 0);
 }
 
 /* The addresses of a set that hold the pattern, marked in the match word if there is one. */

@@ -85,6 +85,18 @@ uint64_t cam_first_match(SHAPE, READ_TABLES, uint32_t pattern) {
     return CAM_ACCEPTED + CAM_NONE + ((uint64_t)(depth / set + 63) / 64 << 16);
 }
 
+uint64_t cam_next_match(SHAPE, READ_TABLES, uint32_t address, uint32_t pattern) {
+    UNUSED;
+    if (address >= depth || pattern >> width) {
+        return address >= depth ? CAM_BAD_ADDRESS : CAM_BAD_PATTERN;
+    }
+    uint32_t a = address + 1;
+    while (a < depth && store[a] != pattern) {
+        a++;
+    }
+    return CAM_ACCEPTED + (uint64_t)(a < depth ? a : CAM_NONE);
+}
+
 uint64_t cam_all_match(SHAPE, READ_TABLES, uint64_t *matches, size_t length, uint32_t pattern) {
     UNUSED;
     if (pattern >> width) {

@@ -2,7 +2,7 @@
 #![tactic(auto, using(crate::proofs::Words::words_ended, figures::proofs::Printing::room_after), unfolding(figures::specs::Figures::ascii, crate::specs::Items::ended, crate::specs::Items::entry_text, crate::specs::Items::answer_items))]
 
 ghost use Rattle.std.specs.Prelude.{◌≡◌, ◌++◌};
-ghost use Rattle.calls.specs.Answers.{entry_for, answer_for};
+ghost use Rattle.calls.specs.Answers.{entry_for, search_for, answer_for};
 ghost use Rattle.figures.specs.Pieces.{piece_bytes, all_bytes};
 ghost use Rattle.figures.specs.Sheet.{Room, Prints};
 ghost use Rattle.answers.specs.Items.{ended, entry_text, counts, answer_items};
@@ -37,6 +37,25 @@ fn put_counted(page: &mut Page, found: &[Piece], words_read: u16, entries_compar
     ])
 }
 
+// The answer of a first-match.
+fn put_search(page: &mut Page, found: Search)
+    requires { Room page.old (ended (answer_items (search_for found))) }
+    ensures { Prints page.old page.new (ended (answer_items (search_for found))) }
+{
+    match found.address {
+        Some(address) => {
+            let at = [Text(" at "), Decimal(address.number())];
+            put_counted(page, &at, found.words_read, found.entries_compared)
+        }
+        None => put_counted(
+            page,
+            &[Text(" none")],
+            found.words_read,
+            found.entries_compared,
+        ),
+    }
+}
+
 // An answer, after the number of its command.
 pub fn put_items(page: &mut Page, answer: Result<Answer, Refusal>, matches: &[u64])
     requires { Room page.old (ended (answer_items (answer_for answer matches.now))) }
@@ -46,27 +65,13 @@ pub fn put_items(page: &mut Page, answer: Result<Answer, Refusal>, matches: &[u6
         Err(why) => page.print(&[Text(" no "), Decimal(u32::from(why)), Text("\n")]),
         Ok(Answer::Cleared) => page.put(Text(" clear\n")),
         Ok(Answer::Held(entry)) => page.print(&[Text(" was "), entry_piece(entry), Text("\n")]),
-        Ok(
-            Answer::Searched(
-                Search {
-                    address: Some(address),
-                    words_read,
-                    entries_compared,
-                },
-            ),
-        ) => {
-            let at = [Text(" at "), Decimal(address.number())];
-            put_counted(page, &at, words_read, entries_compared)
-        }
-        Ok(
-            Answer::Searched(
-                Search {
-                    address: None,
-                    words_read,
-                    entries_compared,
-                },
-            ),
-        ) => put_counted(page, &[Text(" none")], words_read, entries_compared),
+        Ok(Answer::Searched(found)) => put_search(page, found),
+        Ok(Answer::Next(Some(address))) => page.print(&[
+            Text(" at "),
+            Decimal(address.number()),
+            Text("\n"),
+        ]),
+        Ok(Answer::Next(None)) => page.put(Text(" none\n")),
         Ok(Answer::Matched { hits }) => page.print(&[
             Text(" hits "),
             Decimal(hits),

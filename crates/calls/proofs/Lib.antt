@@ -1,3 +1,4 @@
 pub mod Tested
+pub mod Decided
 pub mod Indexed
 pub mod Examples

@@ -1,15 +1,16 @@
 -- Calls and answers of the code beside those that they stand for, as rows of two tables. proofs/Examples.antt computes both.
 use Rattle.std.specs.Prelude.{ℕ, List, [], ◌∷◌, Option, Some, None, Result, Ok, Err}
+use Rattle.std.proofs.Math.Option as option
 use Rattle.reference.specs.Entry.{empty, pattern}
 use Rattle.reference.specs.Calls as calls
-use Rattle.reference.specs.Calls.{clear, write, erase, read, first_match, all_match, refused, cleared, held, at, none, matched}
+use Rattle.reference.specs.Calls.{clear, write, erase, read, first_match, next_match, all_match, refused, cleared, held, at, none, next, matched}
 use Rattle.checks.specs.declared.Refusal.{Refusal}
 use Rattle.checks.specs.declared.Refusal.TheVariants.{BadGeometry, BadLengths, BadAddress, BadPattern, BadEntry, FalseSet, BadTables}
 use Rattle.places.specs.declared.Address.{Address}
 use Rattle.calls.specs.declared.Call.{Call}
-use Rattle.calls.specs.declared.Call.TheVariants.{Clear, Write, Erase, Read, FirstMatch, AllMatch}
+use Rattle.calls.specs.declared.Call.TheVariants.{Clear, Write, Erase, Read, FirstMatch, NextMatch, AllMatch}
 use Rattle.calls.specs.declared.Answer.{Answer}
-use Rattle.calls.specs.declared.Answer.TheVariants.{Cleared, Held, Searched, Matched}
+use Rattle.calls.specs.declared.Answer.TheVariants.{Cleared, Held, Searched, Next, Matched}
 use Rattle.calls.specs.declared.Search.{Search}
 
 -- A value of the code and the one that it stands for.
@@ -44,6 +45,7 @@ call_examples =
     ∷ Erase (address 3) means erase 3
     ∷ Read (address 3) means read 3
     ∷ FirstMatch 5 means first_match 5
+    ∷ NextMatch (address 3) 5 means next_match 3 5
     ∷ AllMatch 5 means all_match 5 two_words
     ∷ []
 
@@ -61,5 +63,7 @@ answer_examples =
     ∷ Ok (Held (Some 5)) means held (pattern 5)
     ∷ Ok (Searched (search (Some (address 3)) 4 5)) means at 3 4 5
     ∷ Ok (Searched (search None 4 5)) means none 4 5
+    ∷ Ok (Next (Some (address 3))) means next (option.some 3)
+    ∷ Ok (Next None) means next option.none
     ∷ Ok (Matched 2) means matched two_words 2
     ∷ []

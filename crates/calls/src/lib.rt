@@ -21,6 +21,7 @@ pub enum Call {
     Erase(Address),
     Read(Address),
     FirstMatch(u32),
+    NextMatch(Address, u32),
     AllMatch(u32),
 }
 
@@ -40,6 +41,8 @@ pub enum Answer {
     // The entry that the address has, or had before the call.
     Held(Entry),
     Searched(Search),
+    // The next address that holds the key, or none.
+    Next(Option<Address>),
     // The match word itself is in the lent one.
     Matched { hits: u32 },
 }

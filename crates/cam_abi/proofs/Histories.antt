@@ -8,6 +8,8 @@ use Rattle.reference.proofs.Refused.{matches-after}
 use Rattle.reference.proofs.Resume.{resume-begins, begun-resumes, begun-shows}
 use Rattle.resume.proofs.Beginning.{code-begun-resumes}
 use Rattle.memory.specs.Runs.{Run, Made, last_tables, array_after_runs, ClearsBegin, ChainsFollow, ChainsBegin, ChainsRefuse, ChainsTell}
+use Rattle.memory.specs.Walks.{ChainsWalk}
+use Rattle.memory.proofs.CodeWalks.{chain-walks}
 use Rattle.memory.proofs.CodeHistory.{Steps, made-steps, chain-clear-begins, chain-follows, chain-begins, chain-refuses, chains-tell, code-history-begins}
 use Rattle.codes.specs.Codes.{told, resume_told}
 use Rattle.cam_abi.specs.Histories.{Called, by_number, made, ResumesBegin, ChainsResumeCode, ChainsResume}
@@ -34,6 +36,9 @@ module _ (g : Geometry) where
 
   pub c-equal-tables : ChainsTell g (Called g)
   c-equal-tables = chains-tell g (called-steps g)
+
+  pub c-walks : ChainsWalk g (Called g)
+  c-walks = chain-walks g (called-steps g)
 
   pub c-resume-begins : ResumesBegin g
   unfolding resume_step

@@ -1,4 +1,4 @@
-// The six calls and resume as callers in C and Rust have them, and the lengths that they ask for; `cam_abi_c` exports these functions. A
+// The seven calls and resume as callers in C and Rust have them, and the lengths that they ask for; `cam_abi_c` exports these functions. A
 // geometry is passed as its four numbers. What comes back is one number, made by `codes`: below 256 it is that of a refusal, which
 // changed nothing; else it is 256 and the value that stands at each function.
 #![tactic(auto)]
@@ -6,12 +6,13 @@
 ghost use Rattle.std.specs.Prelude.{◌≡◌, []};
 ghost use Rattle.geometry.specs.Sizes.{match_words};
 ghost use Rattle.geometry.specs.Stages.{indicator_words};
-ghost use Rattle.reference.specs.Calls.{clear, write, erase, read, first_match, all_match};
+ghost use Rattle.reference.specs.Calls.{clear, write, erase, read, first_match, next_match, all_match};
 ghost use Rattle.calls.specs.Answers.{tables};
 ghost use Rattle.codes.specs.Codes.{size_code, four, Coded, ResumeCoded};
 
 use calls::Answer;
 use codes::{code, four, lengths_of, resume_code};
+use next::next_match;
 use places::Address;
 
 // The value is the number of words of the indicators. C has a name for each length; `lengths_of` does the work of both.
@@ -122,6 +123,23 @@ pub fn cam_first_match(
 {
     let g = four(kind, depth, pattern_width, set_width);
     code(memory::first_match(g, store, indicators, pattern).map(Answer::Searched))
+}
+
+// The value is the lowest address above the one given that holds the pattern, or 65,535 for none.
+pub fn cam_next_match(
+    kind: u32,
+    depth: u32,
+    pattern_width: u32,
+    set_width: u32,
+    store: &[u32],
+    indicators: &[u64],
+    address: u32,
+    pattern: u32,
+) -> u64
+    ensures { Coded (four kind depth pattern_width set_width) (next_match address pattern) result (tables store.now indicators.now) (tables store.now indicators.now) [] }
+{
+    let g = four(kind, depth, pattern_width, set_width);
+    code(next_match(g, store, indicators, Address::new(address), pattern).map(Answer::Next))
 }
 
 // The bit of each address that holds the pattern is set in the match word, every other one is 0. The value is their number.

@@ -5,7 +5,7 @@
 ghost use Rattle.std.specs.Prelude.{◌≡◌, []};
 ghost use Rattle.geometry.specs.Sizes.{match_words};
 ghost use Rattle.geometry.specs.Stages.{indicator_words};
-ghost use Rattle.reference.specs.Calls.{clear, write, erase, read, first_match, all_match};
+ghost use Rattle.reference.specs.Calls.{clear, write, erase, read, first_match, next_match, all_match};
 ghost use Rattle.calls.specs.Answers.{tables};
 ghost use Rattle.codes.specs.Codes.{size_code, four, Coded, ResumeCoded};
 
@@ -146,6 +146,31 @@ pub extern "C" fn cam_first_match(
         set_width,
         store,
         indicators,
+        pattern,
+    )
+}
+
+#[unsafe(no_mangle)]
+pub extern "C" fn cam_next_match(
+    kind: u32,
+    depth: u32,
+    pattern_width: u32,
+    set_width: u32,
+    store: &[u32],
+    indicators: &[u64],
+    address: u32,
+    pattern: u32,
+) -> u64
+    ensures { Coded (four kind depth pattern_width set_width) (next_match address pattern) result (tables store.now indicators.now) (tables store.now indicators.now) [] }
+{
+    cam_abi::cam_next_match(
+        kind,
+        depth,
+        pattern_width,
+        set_width,
+        store,
+        indicators,
+        address,
         pattern,
     )
 }

@@ -8,7 +8,7 @@ use Rattle.reference.specs.Tables.{Tables}
 use Rattle.reference.specs.Steps.{Outcome, step}
 use Rattle.reference.specs.Resume.{Resumption, resume_step}
 use Rattle.calls.specs.declared.Answer.{Answer}
-use Rattle.calls.specs.declared.Answer.TheVariants.{Cleared, Held, Searched, Matched}
+use Rattle.calls.specs.declared.Answer.TheVariants.{Cleared, Held, Searched, Next, Matched}
 use Rattle.checks.specs.declared.Refusal.{Refusal}
 use Rattle.std.specs.Prelude.{Result, Ok, Err}
 use Rattle.calls.specs.Answers.{answer_for, tables, left}
@@ -21,6 +21,7 @@ code_any (Err why) m = refl
 code_any (Ok Cleared) m = refl
 code_any (Ok (Held e)) m = refl
 code_any (Ok (Searched s)) m = refl
+code_any (Ok (Next x)) m = refl
 code_any (Ok (Matched n)) m = refl
 
 -- The code's call was made with geometry h and call d, which are those of the contract.

@@ -5,26 +5,31 @@ use Rattle.std.proofs.Math.Option.{Option, some}
 use Rattle.geometry.specs.declared.Geometry.{Geometry}
 use Rattle.geometry.specs.Valid.{valid}
 use Rattle.reference.specs.Entry.{Entry, empty, pattern, empty_word, word_of}
-use Rattle.reference.specs.Calls.{Call, clear, write, erase, read, first_match, all_match, Answer, refused, cleared, held, at, none, matched}
+use Rattle.reference.specs.Calls.{Call, clear, write, erase, read, first_match, next_match, all_match, Answer, refused, cleared, held, at, none, next, matched}
 use Rattle.reference.specs.Tables.{Tables}
 use Rattle.reference.specs.Steps.{step}
 use Rattle.reference.specs.Resume.{resume_step}
 
--- A refusal's number, which is below 256, or 256 and a value (rules 12.1 to 12.3).
+-- A refusal's number, which is below 256, or 256 and a value (rules 12.1 to 12.3 and 12.6).
 abbrev pub code_of : Answer → ℕ
 code_of (refused n) = n
 code_of cleared = 256
 code_of (held e) = 256 + word_of e
 code_of (at a w c) = 256 + a + 65536 * w + 4294967296 * c
 code_of (none w c) = 256 + 65535 + 65536 * w + 4294967296 * c
+code_of (next (some a)) = 256 + a
+code_of (next Option.none) = 256 + 65535
 code_of (matched ws n) = 256 + n
 
--- The entry in a value, and the address or none with both counts.
+-- The entry in a value, the address or none with both counts, and without.
 abbrev pub entry_in : (value : ℕ) → Entry
 entry_in v = cond (eqb v empty_word) empty (pattern v)
 
 abbrev pub place_in : (address words-read entries-compared : ℕ) → Answer
 place_in a w c = cond (eqb a 65535) (none w c) (at a w c)
+
+abbrev pub address_in : (value : ℕ) → Option ℕ
+address_in v = cond (eqb v 65535) Option.none (some v)
 
 -- The answer that a value gives back to a call, with the match word after it.
 unfoldable pub value_told : Call (List ℕ) → (value : ℕ) → (matches : List ℕ) → Answer
@@ -33,6 +38,7 @@ value_told (write a p) v m = held (entry_in v)
 value_told (erase a) v m = held (entry_in v)
 value_told (read a) v m = held (entry_in v)
 value_told (first_match key) v m = place_in (v % 65536) (v / 65536 % 65536) (v / 4294967296)
+value_told (next_match a key) v m = next (address_in v)
 value_told (all_match key lent) v m = matched m v
 
 -- The answer that a number gives back.

@@ -4,7 +4,7 @@ use Rattle.std.specs.Prelude.{ℕ, List, [], ◌∷◌}
 use Rattle.std.proofs.Math.Option.{Option, some}
 use Rattle.geometry.specs.declared.Geometry.{Geometry}
 use Rattle.reference.specs.Entry.{empty, pattern}
-use Rattle.reference.specs.Calls.{Answer, refused, cleared, held, at, none, matched}
+use Rattle.reference.specs.Calls.{Answer, refused, cleared, held, at, none, next, matched}
 use Rattle.codes.specs.Codes.{four}
 
 pub record Example : Type 0 where
@@ -24,6 +24,8 @@ codes =
     ∷ held (pattern 5) has 261
     ∷ at 7 2 3 has 12885033223
     ∷ none 2 3 has 12885098751
+    ∷ next (some 7) has 263
+    ∷ next Option.none has 65791
     ∷ matched (8 ∷ 9 ∷ []) 2 has 258
     ∷ []
 

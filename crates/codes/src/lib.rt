@@ -2,16 +2,17 @@
 // gives. Where the exported functions take a geometry, it is made of four numbers here.
 #![tactic(auto)]
 
-ghost use Rattle.std.specs.Prelude.{◌≡◌, []};
+ghost use Rattle.std.specs.Prelude.{◌+◌, ◌≡◌, []};
 ghost use Rattle.geometry.specs.Sizes.{match_words};
 ghost use Rattle.geometry.specs.Stages.{indicator_words};
-ghost use Rattle.calls.specs.Answers.{answer_for};
+ghost use Rattle.calls.specs.Answers.{next_for, answer_for};
 ghost use Rattle.resume.specs.Resumed.{refusal_for};
 ghost use Rattle.codes.specs.Codes.{code_of, resume_code, size_code, four};
 
 use calls::Answer;
 use checks::Refusal;
 use geometry::Geometry;
+use places::Address;
 
 // The geometry of the four numbers.
 pub fn four(kind: u32, depth: u32, pattern_width: u32, set_width: u32) -> Geometry
@@ -25,6 +26,16 @@ pub fn four(kind: u32, depth: u32, pattern_width: u32, set_width: u32) -> Geomet
     }
 }
 
+// The number of the address in an answer, or of none.
+fn address_number(address: Option<Address>) -> u32
+    ensures { 256 + result ≡ code_of (next_for address) }
+{
+    match address {
+        Some(address) => address.number(),
+        None => 65535,
+    }
+}
+
 // The number of an answer.
 pub fn code(answer: Result<Answer, Refusal>) -> u64
     ensures { result ≡ code_of (answer_for answer []) }
@@ -34,14 +45,11 @@ pub fn code(answer: Result<Answer, Refusal>) -> u64
         Ok(Answer::Cleared) => 256,
         Ok(Answer::Held(entry)) => 256 + u64::from(calls::word(entry)),
         Ok(Answer::Searched(found)) => {
-            let address = match found.address {
-                Some(address) => address.number(),
-                None => 65535,
-            };
-            256 + u64::from(address)
+            256 + u64::from(address_number(found.address))
                 + 65536 * u64::from(found.words_read)
                 + 0x1_0000_0000 * u64::from(found.entries_compared)
         }
+        Ok(Answer::Next(address)) => 256 + u64::from(address_number(address)),
         Ok(Answer::Matched { hits }) => 256 + u64::from(hits),
     }
 }

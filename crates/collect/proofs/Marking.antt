@@ -29,9 +29,6 @@ pub length_marked : (r : ℕ → Bool) (ws : List ℕ) → length (marked r ws) 
 unfolding marked
 length_marked r ws = length-tabulate (length ws) _
 
-pub same-marks : (r q : ℕ → Bool) (m ws : List ℕ) → marked r m ≡ marked q ws → length m ≡ length ws
-same-marks r q m ws e = sym (length_marked r m) ∙ ap length e ∙ length_marked q ws
-
 -- words that were zero hold the rule alone
 pub marked-zeros : (r : ℕ → Bool) (n : ℕ) → marked r (replicate n 0) ≡ bit_words n r
 unfolding marked bit_words

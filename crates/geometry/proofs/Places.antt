@@ -3,7 +3,7 @@ use Prim.Native.Nat.{ℕ, ◌+◌, ◌*◌, ◌/◌, ◌%◌, ◌<◌, ◌≤◌
 use mathlib.Core.Path.{◌≡◌, sym, ◌∙◌}
 use mathlib.Core.Bool.{false, ◌&&◌}
 use mathlib.Core.Logic.{◌⊎◌, inl, inr}
-use native.Mathlib.Nat.{le_of_suc-le-suc, eq-or-lt_of_le, mod-lt, div-one, mul_comm, mul-le-mul_left, div-add-mod, div-lt_iff_lt-mul, div-div-eq-div-mul}
+use native.Mathlib.Nat.{le_of_suc-le-suc, eq-or-lt_of_le, mod-lt, div-one, mul_comm, mul-le-mul_left, div-add-mod, div-lt_iff_lt-mul, div-div-eq-div-mul, lt_of_lt_of_le, div-mul-le_self}
 use native.Mathlib.Omega.{arith}
 use lib.Dec.{eqb}
 use lib.Arith.{digits_lt, digits_div, digits_mod}
@@ -86,6 +86,13 @@ module _ (g : Geometry) (f : Facts g) where
       go : (set_of g a ≡ s) ⊎ (set_of g a < s) → (set_of g a < s) ⊎ ((set_of g a ≡ s) × (offset_of g a < o))
       go (inl e) = inr (e, omega (arith, rw e at (address-of a)))
       go (inr l) = inl l
+
+  -- an address of a later set is larger, and a larger one lies in a later set, or in the same at a later offset
+  pub later-set : (a b : ℕ) → set_of g a < set_of g b → a < b
+  later-set a b h = lt_of_lt_of_le ((div-lt_iff_lt-mul f.set-pos).0 h) (div-mul-le_self b g.set_width)
+
+  pub later-address : (a b : ℕ) → b < g.depth → a < b → (set_of g a < set_of g b) ⊎ ((set_of g a ≡ set_of g b) × (offset_of g a < offset_of g b))
+  later-address a b inside l = below-address a (set_of g b) (offset_of g b) (offset-lt b inside) (rw (address-of b) l)
 
   -- the w of an address (rule 5.7 of docs/MEMORY.md) is by the word of its set
   pub word-of-address : (a : ℕ) → a / (64 * g.set_width) ≡ set_of g a / 64

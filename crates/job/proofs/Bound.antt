@@ -9,7 +9,7 @@ use native.Mathlib.Nat.{div-le_self}
 use native.Mathlib.Omega.{arith}
 use lib.Dec.{eqb}
 use lib.ListN.{length, length-append}
-use Rattle.words.specs.Rules.{lowest}
+use Rattle.words.specs.Rules.{lowest, above}
 use Rattle.words.proofs.Rules.{count_most, LowestIs, at_first, at_none, lowest-is}
 use Rattle.words.proofs.Bits.{length-bit_words}
 use Rattle.machines.specs.Machine as machine
@@ -21,7 +21,7 @@ use Rattle.geometry.specs.Sizes.{match_words, set_of, set_length}
 use Rattle.geometry.proofs.Facts.{Facts, facts, patterns-most, kind-most}
 use Rattle.geometry.proofs.Bounds.{words-few}
 use Rattle.geometry.proofs.Places.{length_most, matches-least}
-use Rattle.reference.specs.Calls.{Call, clear, write, erase, read, first_match, all_match, held}
+use Rattle.reference.specs.Calls.{Call, clear, write, erase, read, first_match, next_match, all_match, held, next}
 use Rattle.reference.specs.Array.{Array, emptied, entry_at, holding, Sound, counted, array_refusals, array_accepted, array_outcome, array_step}
 use Rattle.reference.proofs.Emptied.{emptied-sound}
 use Rattle.figures.specs.Figures.{Bytes}
@@ -57,6 +57,13 @@ module _ (g : Geometry) (ok : valid g ≡ true) (shallow : g.depth ≤ 1024) (es
           rw found (omega arith, omega (arith, div-le_self i (64 * g.set_width)), compared i (eqb g.kind segmented))
       go (at_none missing nowhere) = rw missing (omega (arith, words-few g f), omega arith)
 
+  next-small : (a key : ℕ) → Small (next (lowest g.depth (above a (holding es key))))
+  next-small a key = go (lowest-is g.depth (above a (holding es key)))
+    where
+      go : LowestIs g.depth (above a (holding es key)) (lowest g.depth (above a (holding es key))) → Small (next (lowest g.depth (above a (holding es key))))
+      go (at_first i found first) = rw found (omega (arith, first.within))
+      go (at_none missing nowhere) = rw missing tt
+
   accepted-small : (c : Call ℕ) → Small (array_accepted g es c).answer
   unfolding array_accepted
   accepted-small clear = tt
@@ -64,6 +71,7 @@ module _ (g : Geometry) (ok : valid g ≡ true) (shallow : g.depth ≤ 1024) (es
   accepted-small (erase a) = held_small a
   accepted-small (read a) = held_small a
   accepted-small (first_match key) = counted-small key
+  accepted-small (next_match a key) = next-small a key
   accepted-small (all_match key len) = (simp length-bit_words (omega (arith, matches-least g f)), omega (arith, count_most g.depth (holding es key)))
 
   -- every number that stops a call has one figure
@@ -74,6 +82,7 @@ module _ (g : Geometry) (ok : valid g ≡ true) (shallow : g.depth ≤ 1024) (es
   refusals-small (erase a) = (λ b. omega arith, tt)
   refusals-small (read a) = (λ b. omega arith, tt)
   refusals-small (first_match key) = (λ b. omega arith, tt)
+  refusals-small (next_match a key) = (λ b. omega arith, (λ b. omega arith, tt))
   refusals-small (all_match key len) = (λ b. omega arith, (λ b. omega arith, tt))
 
   command-small : (c : Command) → Small (array_command g es c).answer

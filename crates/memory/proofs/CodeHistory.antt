@@ -69,7 +69,7 @@ module _ {Link : Tables → Run → Type 0} (g : Geometry) (steps : (t : Tables)
   chains-tell t u es fs b c xs ys p q =
       rw ((ran t xs p).ends, (ran u ys q).ends) (equal-tables g t u es fs b c (map (λ (x : Run). x.call) xs) (map (λ (x : Run). x.call) ys))
 
--- The six calls and `perform`, in any mixture.
+-- The seven calls and `perform`, in any mixture.
 module _ (g : Geometry) where
   pub code-clear-begins : ClearsBegin g (Made g)
   code-clear-begins = chain-clear-begins g (made-steps g)

@@ -1,4 +1,4 @@
 pub mod Outcomes
-pub mod Decided
 pub mod Performing
 pub mod CodeHistory
+pub mod CodeWalks

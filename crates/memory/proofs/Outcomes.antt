@@ -1,47 +1,30 @@
--- The ways a call ends, as outcomes of its step: refused, or what is left of it where no row is left.
+-- What a call leaves that came to its last rows, as an outcome of its step.
 use Prim.Native.Nat.{ℕ}
-use mathlib.Core.Path.{◌≡◌, refl, sym, ap}
+use mathlib.Core.Path.{◌≡◌, sym}
 use mathlib.Core.Bool.{Bool, true, false, cond}
 use mathlib.Core.List.{List, [], ◌∷◌}
-use mathlib.Core.Option.{some}
 use Rattle.std.specs.Prelude.{Option, Result, Ok, Err}
-use Rattle.std.specs.Result.{IsErr, IsErrAnd}
 use lib.ListN.{length, replicate}
 use Rattle.words.specs.Bits.{total_ones}
-use Rattle.machines.specs.Refusals.{RefusalRow, ◌given-when◌, first_refusal}
+use Rattle.machines.specs.Refusals.{◌given-when◌, first_refusal}
 use Rattle.geometry.specs.declared.Geometry.{Geometry}
 use Rattle.geometry.specs.Sizes.{match_words}
 use Rattle.reference.specs.Entry.{Entry, empty_word}
-use Rattle.reference.specs.Calls.{Call, clear, read, first_match, all_match, refused, held, lent}
+use Rattle.reference.specs.Calls.{Call, clear, read, all_match, refused, held, lent}
 use Rattle.reference.specs.Tables.{Tables, stored_entry}
 use Rattle.reference.specs.Update.{replaced}
-use Rattle.reference.specs.Search.{Found, hit, nothing, false_set, is_false, answer_of, first_found, taken, taken_words}
-use Rattle.reference.specs.Steps.{bad_entry, accepted, clear_tables, refusals, outcome, step}
+use Rattle.reference.specs.Search.{taken, taken_words}
+use Rattle.reference.specs.Steps.{bad_entry, accepted, clear_tables, outcome}
 use Rattle.sizes.specs.declared.Sizes.{Sizes}
 use Rattle.checks.specs.declared.Refusal.{Refusal}
-use Rattle.checks.specs.Checks.{number_of, ok_map}
+use Rattle.checks.specs.Checks.{ok_map}
 use Rattle.checks.specs.Passed.{Lent}
-use Rattle.checks.proofs.Acceptance.{handed-on}
-use Rattle.checks.proofs.Rows.{Reaches}
-use Rattle.calls.specs.declared.Answer.{Answer}
 use Rattle.calls.specs.declared.Answer.TheVariants.{Cleared, Held, Matched}
-use Rattle.calls.specs.Answers.{entry_for, checked_entry, answer_for, tables, left}
+use Rattle.calls.specs.Answers.{entry_for, checked_entry, tables, left}
 use Rattle.calls.proofs.Tested.{bad-there, held-there}
 use Rattle.update.specs.Replacing.{replacing}
 use Rattle.collect.specs.Marks.{marked}
 use Rattle.collect.proofs.Marking.{marked-zeros}
-
--- What the rows decide of a call's table decides its step: the number of a refusal alone, or the rows that are reached.
-module _ (g : Geometry) (s i : List ℕ) (c : Call (List ℕ)) where
-  -- r is what `?` hands on
-  pub refused-left : {A : Type 0} (f : A → Answer) (why : Refusal) (r : Result A Refusal) → IsErr r × IsErrAnd r (λ e. e ≡ why)
-      → first_refusal (refusals g (tables s i) c) ≡ some (number_of why) → left (ok_map f r) s i (lent c) ≡ step g (tables s i) c
-  unfolding outcome step
-  refused-left f why r handed e = rw (handed-on why r handed) (sym (ap (outcome g (tables s i) c) e))
-
-  pub rest-left : {rest : List RefusalRow} → Reaches (refusals g (tables s i) c) rest → outcome g (tables s i) c (first_refusal rest) ≡ step g (tables s i) c
-  unfolding step
-  rest-left r = sym (ap (outcome g (tables s i) c) r.same)
 
 -- Clear: tables filled to their lengths.
 pub cleared-left : (g : Geometry) (t : Tables) (z : Sizes) (n m : ℕ) → Lent g z n m
@@ -67,18 +50,6 @@ pub read-left : (g : Geometry) (s i : List ℕ) (a : ℕ) (r : Result (Option �
 unfolding outcome first_refusal accepted lent
 read-left g s i a (Err why) is = let there = bad-there _ _ is in rw (there.0, there.1)
 read-left g s i a (Ok e) is = let there = held-there _ _ is in rw (there.0, there.1)
-
--- First-match: row 6 and the answer are made of one search.
-pub first-left : (g : Geometry) (s i : List ℕ) (key : ℕ) (r : Result Answer Refusal) → answer_for r [] ≡ answer_of (first_found g (tables s i) key)
-    → left r s i [] ≡ outcome g (tables s i) (first_match key) (first_refusal (6 given-when is_false (first_found g (tables s i) key) ∷ []))
-unfolding outcome first_refusal accepted lent is_false answer_of
-first-left g s i key r is = rw is (go (first_found g (tables s i) key) refl)
-  where
-    go : (f : Found) → first_found g (tables s i) key ≡ f
-        → record { answer = answer_of f; tables = tables s i; matches = [] } ≡ outcome g (tables s i) (first_match key) (first_refusal (6 given-when is_false f ∷ []))
-    go (hit a w c) e = rw e
-    go (nothing w c) e = rw e
-    go false_set e = refl
 
 -- All-match: what is taken, marked on a match word of zeros, and its ones.
 pub matched-left : (g : Geometry) (s i m : List ℕ) (key n : ℕ) (ws zs : List ℕ) → ws ≡ marked (taken g (tables s i) key) zs

@@ -7,14 +7,14 @@ use mathlib.Core.Option.{Option, none, some}
 use Rattle.machines.specs.Refusals.{first_refusal}
 use Rattle.geometry.specs.declared.Geometry.{Geometry}
 use Rattle.reference.specs.Calls as calls
-use Rattle.reference.specs.Calls.{clear, write, erase, read, first_match, all_match, refused, cleared, held, at, matched, lent, matches_after}
+use Rattle.reference.specs.Calls.{clear, write, erase, read, first_match, next_match, all_match, refused, cleared, held, at, next, matched, lent, matches_after}
 use Rattle.reference.specs.Tables.{Tables}
-use Rattle.reference.specs.Search.{Found, hit, nothing, false_set, first_found, answer_of}
+use Rattle.reference.specs.Search.{Found, hit, nothing, false_set, first_found, next_found, answer_of, next_of}
 use Rattle.reference.specs.Steps.{Outcome, refusals, accepted, outcome, step}
 use Rattle.reference.proofs.Refused.{matches-after}
 use Rattle.calls.specs.declared.Call.{Call}
 use Rattle.calls.specs.declared.Answer.{Answer}
-use Rattle.calls.specs.declared.Answer.TheVariants.{Cleared, Held, Searched, Matched}
+use Rattle.calls.specs.declared.Answer.TheVariants.{Cleared, Held, Searched, Next, Matched}
 use Rattle.checks.specs.declared.Refusal.{Refusal}
 use Rattle.std.specs.Prelude.{Result, Ok, Err}
 use Rattle.calls.specs.Answers.{call_for, answer_for, tables, left, Performed}
@@ -26,6 +26,7 @@ is_matched cleared = false
 is_matched (held e) = false
 is_matched (at a w c) = false
 is_matched (calls.none w c) = false
+is_matched (next x) = false
 
 -- The calls that are lent no match word.
 abbrev pub Bare : calls.Call (List ℕ) → Type 0
@@ -35,16 +36,22 @@ Bare (write a p) = Unit
 Bare (erase a) = Unit
 Bare (read a) = Unit
 Bare (first_match key) = Unit
+Bare (next_match a key) = Unit
 
 -- none of them answers with one
 bare-unmatched : (g : Geometry) (t : Tables) (c : calls.Call (List ℕ)) → Bare c → is_matched (step g t c).answer ≡ false
-unfolding step outcome accepted answer_of
+unfolding step outcome accepted answer_of next_of
 bare-unmatched g t c b = go c b (first_refusal (refusals g t c))
   where
     found : (f : Found) → is_matched (answer_of f) ≡ false
     found (hit a w n) = refl
     found (nothing w n) = refl
     found false_set = refl
+
+    found_next : (f : Found) → is_matched (next_of f) ≡ false
+    found_next (hit a w n) = refl
+    found_next (nothing w n) = refl
+    found_next false_set = refl
 
     go : (c : calls.Call (List ℕ)) → Bare c → (o : Option ℕ) → is_matched (outcome g t c o).answer ≡ false
     go c b (some n) = refl
@@ -53,6 +60,7 @@ bare-unmatched g t c b = go c b (first_refusal (refusals g t c))
     go (erase a) b none = refl
     go (read a) b none = refl
     go (first_match key) b none = found (first_found g t key)
+    go (next_match a key) b none = found_next (next_found g t a key)
     go (all_match key m) b none = absurd b
 
 -- such an answer has no use for a match word, and leaves it
@@ -62,6 +70,7 @@ answer-any (Ok (Matched n)) m e = absurd (true≢false e)
 answer-any (Ok Cleared) m e = refl
 answer-any (Ok (Held x)) m e = refl
 answer-any (Ok (Searched x)) m e = refl
+answer-any (Ok (Next x)) m e = refl
 
 kept_any : (x : calls.Answer) (m : List ℕ) → is_matched x ≡ false → m ≡ matches_after x m
 unfolding matches_after
@@ -71,6 +80,7 @@ kept_any cleared m e = refl
 kept_any (held x) m e = refl
 kept_any (at a w n) m e = refl
 kept_any (calls.none w n) m e = refl
+kept_any (next x) m e = refl
 
 -- `known` is the call, by its case.
 module _ (g : Geometry) (call known : Call) (is : call ≡ known) (r : Result Answer Refusal) (t : Tables) (s i m : List ℕ) where

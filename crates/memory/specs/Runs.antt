@@ -23,7 +23,7 @@ pub record Run : Type 0 where
   pub tables : Tables
   pub matches : List ℕ
 
--- A run on the tables t. What is known of it is what the function that was called ensures: one of the six calls, or `perform`,
+-- A run on the tables t. What is known of it is what the function that was called ensures: one of the seven calls, or `perform`,
 -- which is lent a match word with every call.
 pub data Made (g : Geometry) (t : Tables) : Run → Type 0 where
   by_call : (c : Call (List ℕ)) (r : Result code-answer.Answer Refusal) (s i m : List ℕ) → left r s i m ≡ step g t c

@@ -1,4 +1,5 @@
-// The six calls and the line, over lent tables (docs/MEMORY.md, sections 7 to 9 and 11). Each gives the answer of its step in
+// Six of the calls and the line, over lent tables (docs/MEMORY.md, sections 7 to 9 and 11), and any call as one function: next-match has
+// `next` for a crate of its own. Each gives the answer of its step in
 // `reference` and leaves its tables, for every input: any geometry, tables of any length and content. Store and indicators are lent side
 // by side, as a rule of the project has it: a struct of both would have to be made before their lengths are checked. A call's first lines
 // are the rows of its table, one by one: a function for those that several have would want a definition of what it gives.
@@ -14,6 +15,7 @@ ghost use Rattle.memory.specs.Lines.{HandsBack};
 use calls::{Answer, Call, Entry, Search};
 use checks::{Refusal, Tables};
 use geometry::Geometry;
+use next::next_match;
 use places::{Address, SetIndex};
 
 // Empties every address.
@@ -119,7 +121,7 @@ pub fn line(g: Geometry, store: &[u32], set: SetIndex) -> &[u32]
     }
 }
 
-// Any of the six calls. A history is this function again and again.
+// Any of the seven calls. A history is this function again and again.
 pub fn perform(
     call: Call,
     g: Geometry,
@@ -137,6 +139,9 @@ pub fn perform(
         Call::Erase(address) => erase(g, store, indicators, address).map(Answer::Held),
         Call::Read(address) => read(g, store, indicators, address).map(Answer::Held),
         Call::FirstMatch(key) => first_match(g, store, indicators, key).map(Answer::Searched),
+        Call::NextMatch(address, key) => {
+            next_match(g, store, indicators, address, key).map(Answer::Next)
+        }
         Call::AllMatch(key) => {
             all_match(g, store, indicators, matches, key).map(|hits| Answer::Matched { hits })
         }

@@ -10,9 +10,9 @@
 
 mod walk;
 
-ghost use Rattle.std.specs.Prelude.{◌+◌, ◌*◌, ◌/◌, ◌%◌, ◌<◌, ◌≡◌, leb, length, get_or, set};
+ghost use Rattle.std.specs.Prelude.{◌+◌, ◌*◌, ◌/◌, ◌%◌, ◌<◌, ◌≡◌, cond, eqb, leb, length, get_or, set};
 ghost use Rattle.std.specs.Int.Count.{count_trailing_zeros};
-ghost use Rattle.words.specs.Bits.{bit, set_bit, put_bit, change_bit, row_mask};
+ghost use Rattle.words.specs.Bits.{bit, set_bit, put_bit, bits_from, change_bit, row_mask};
 ghost use Rattle.geometry.specs.Sizes.{sets, set_of, offset_of, address_of, set_length};
 ghost use Rattle.reference.specs.Entry.{empty_word};
 ghost use Rattle.places.specs.Lines.{IsLine};
@@ -148,6 +148,21 @@ impl SetIndex {
         SetIndex(number)
     }
 
+    // The first set of all.
+    pub fn first() -> Self
+        ensures { result.0 ≡ 0 }
+    {
+        SetIndex(0)
+    }
+
+    // The set after it, which the last set has not: then its number is none's. That it is a set itself is shown as for `address`.
+    pub fn next(self, layout: Layout) -> Self
+        requires { self.0 < sets layout.geometry }
+        ensures { result.0 ≡ self.0 + 1 }
+    {
+        SetIndex(self.0 + 1)
+    }
+
     // Whether it is none of the sets.
     pub fn is_outside(self, sizes: Sizes) -> bool
         ensures { result ≡ leb sizes.sets self.0 }
@@ -202,6 +217,17 @@ impl SetIndex {
         words::has_bit(indicators[at], self.0 % 64)
     }
 
+    // A word of a row for a search from it on: the one that has its bit loses those of the sets before it.
+    pub fn search_word(self, word: u64, at: RowWord) -> u64
+        ensures { result ≡ cond (eqb at.0 (self.0 / 64)) (bits_from word (self.0 % 64)) word }
+    {
+        if at.0 == (self.0 / 64) as usize {
+            words::bits_from(word, self.0 % 64)
+        } else {
+            word
+        }
+    }
+
     // Its line (rule 11.1): that part of the store itself. `memory::line` tests what is asked.
     pub fn line(self, store: &[u32], layout: Layout) -> &[u32]
         requires { (length store.now ≡ layout.geometry.depth) × (self.0 < sets layout.geometry) }
@@ -227,6 +253,14 @@ impl SetLength {
     {
         Walk::to(u32::from(self.0))
     }
+
+    // Those above one of them, in their order.
+    pub fn offsets_above(self, at: Offset) -> Walk<Offset>
+        requires { at.0 < self.0 }
+        ensures { (result.next ≡ at.0 + 1) × (result.end ≡ self.0) }
+    {
+        Walk::between(at.0 + 1, u32::from(self.0))
+    }
 }
 
 impl Offset {
@@ -243,7 +277,14 @@ impl RowWord {
     pub fn all(layout: Layout) -> Walk<RowWord>
         ensures { (result.next ≡ 0) × (result.end ≡ layout.sizes.row_words) }
     {
-        Walk::to(layout.sizes.row_words as u32)
+        RowWord::from_set(SetIndex::first(), layout)
+    }
+
+    // Those from the one with a set's bit on.
+    pub fn from_set(set: SetIndex, layout: Layout) -> Walk<RowWord>
+        ensures { (result.next ≡ set.0 / 64) × (result.end ≡ layout.sizes.row_words) }
+    {
+        Walk::between(set.0 / 64, layout.sizes.row_words as u32)
     }
 
     // The bits of that word that belong to sets. The others are padding.

@@ -1,19 +1,19 @@
 -- One call on the tables of an array agrees with the same call on the array: answer, tables and refusal number.
-use Prim.Native.Nat.{ℕ, ◌<◌}
+use Prim.Native.Nat.{ℕ, suc, ◌<◌}
 use mathlib.Core.Path.{◌≡◌, refl, sym, ap, ap₂, ◌∙◌}
 use mathlib.Core.Logic.{◌⊎◌, inl, inr}
-use mathlib.Core.Bool.{Bool, true, false, not}
+use mathlib.Core.Bool.{Bool, true, false, not, ◌&&◌}
 use mathlib.Core.List.{List, [], ◌∷◌, ◌++◌}
 use mathlib.Core.Option.{Option}
 use native.Mathlib.Omega.{arith}
-use lib.Dec.{eqb}
+use lib.Dec.{eqb, leb}
 use lib.ListN.{length, set, length-set}
 use lib.Seq.{get_or-set_same, get_or-set_other}
 use borrow.Author.Tests.{eqb-true, eqb-false}
 use Rattle.words.specs.Rules as rule
-use Rattle.words.specs.Rules.{count, First}
+use Rattle.words.specs.Rules.{count, above, First}
 use Rattle.words.specs.Bits.{bit_words, total_ones}
-use Rattle.words.proofs.Rules.{count-ext, lowest-first, lowest-nowhere}
+use Rattle.words.proofs.Rules.{count-ext, lowest-first, lowest-nowhere, lowest-ext}
 use Rattle.words.proofs.Bits.{bit_words-ext}
 use Rattle.machines.specs.Refusals.{RefusalRow, ◌given-when◌, first_refusal, Passed}
 use Rattle.machines.proofs.Refusals.{passes, last-passes}
@@ -22,19 +22,19 @@ use Rattle.geometry.specs.Valid.{valid}
 use Rattle.geometry.specs.Sizes.{patterns, match_words}
 use Rattle.geometry.proofs.Facts.{Facts, facts}
 use Rattle.reference.specs.Entry.{Entry, empty, pattern, Fits, word_of, holds}
-use Rattle.reference.specs.Calls.{Call, clear, write, erase, read, first_match, all_match, shape, held, matched}
+use Rattle.reference.specs.Calls.{Call, clear, write, erase, read, first_match, next_match, all_match, shape, held, next, matched}
 use Rattle.reference.specs.Refusals.{bad_address, bad_pattern}
 use Rattle.reference.specs.Array.{Array, entry_at, holding, counted, array_refusals, ArrayOutcome, array_accepted, array_outcome, array_step, Sound}
 use Rattle.reference.specs.Tables.{stored_word}
 use Rattle.reference.specs.Image.{tables_of}
-use Rattle.reference.specs.Search.{first_found, answer_of, taken, taken_words}
+use Rattle.reference.specs.Search.{first_found, next_found, answer_of, next_of, taken, taken_words}
 use Rattle.reference.specs.Statements.{Mirrors, stores, FirstIs, lowest, absent}
 use Rattle.reference.specs.Steps.{bad_matches, bad_entry, own_refusals, refusals, Outcome, accepted, outcome, step}
 use Rattle.reference.proofs.Limits.{lengths-pass, address-passes, pattern-passes, entry-passes}
 use Rattle.reference.proofs.Entries.{empty-fits, pattern-fits}
 use Rattle.reference.proofs.Covering.{holds-word}
-use Rattle.reference.proofs.Mirrored.{first-is, first-not-false, none-false, taken_is}
-use Rattle.reference.proofs.Searched.{first_any, taken-counted}
+use Rattle.reference.proofs.Mirrored.{first-is, first-not-false, next-is, next-not-false, none-false, taken_is}
+use Rattle.reference.proofs.Searched.{first_any, next_any, taken-counted}
 use Rattle.reference.proofs.Image.{store_word, store_entry, image-mirrors, replaced-image}
 use Rattle.reference.proofs.Emptied.{emptied-sound, cleared-tables}
 
@@ -84,14 +84,15 @@ module _ (g : Geometry) (ok : valid g ≡ true) (es : Array) (sound : Sound g es
       go (write a p) = rw (no-bad-entry a) (last-passes (3 given-when bad_address g a ∷ 4 given-when bad_pattern g p ∷ []) 5)
       go (erase a) = rw (no-bad-entry a) (last-passes (3 given-when bad_address g a ∷ []) 5)
       go (read a) = rw (no-bad-entry a) (last-passes (3 given-when bad_address g a ∷ []) 5)
-      go (first_match key) = key-passes g key 6 _ (first-not-false g f (tables_of g es) mirrors key) []
-      go (all_match key m) = key-passes g key 6 _ (none-false g f (tables_of g es) mirrors key) (2 given-when not (eqb (length m) (match_words g)) ∷ [])
+      go (first_match key) = key-passes g key 6 _ (first-not-false g ok (tables_of g es) mirrors key) []
+      go (next_match a key) = key-passes g key 6 _ (λ small. next-not-false g ok (tables_of g es) mirrors key small a) (3 given-when bad_address g a ∷ [])
+      go (all_match key m) = key-passes g key 6 _ (none-false g ok (tables_of g es) mirrors key) (2 given-when not (eqb (length m) (match_words g)) ∷ [])
 
   -- ---- the searches agree
 
   first-agrees : (key : ℕ) → key < patterns g → answer_of (first_found g (tables_of g es) key) ≡ counted g (rule.lowest g.depth (holding es key))
   unfolding counted
-  first-agrees key small = go (first-is g f (tables_of g es) mirrors key small _ (first_any g ok (tables_of g es) mirrors.entries key))
+  first-agrees key small = go (first-is g ok (tables_of g es) mirrors key small _ (first_any g ok (tables_of g es) mirrors.entries key))
     where
       there : (a : ℕ) → First g.depth (stores (tables_of g es) key) a → First g.depth (holding es key) a
       there a h = record {
@@ -105,8 +106,13 @@ module _ (g : Geometry) (ok : valid g ≡ true) (es : Array) (sound : Sound g es
       go (lowest a first answer) = rw (lowest-first g.depth (holding es key) a (there a first)) answer
       go (absent nowhere answer) = rw (lowest-nowhere g.depth (holding es key) (λ a l. sym (held-is key small a) ∙ nowhere a l)) answer
 
+  next-agrees : (a key : ℕ) → a < g.depth → key < patterns g → next_of (next_found g (tables_of g es) a key) ≡ next (rule.lowest g.depth (above a (holding es key)))
+  next-agrees a key inside small =
+      next-is g ok (tables_of g es) mirrors key small a inside _ (next_any g (tables_of g es) a key ok mirrors.entries inside)
+      ∙ ap next (lowest-ext g.depth _ _ (λ b l. ap (λ h. leb (suc a) b && h) (held-is key small b)))
+
   taken-holds : (key : ℕ) → key < patterns g → (a : ℕ) → taken g (tables_of g es) key a ≡ holding es key a
-  taken-holds key small a = taken_is g f (tables_of g es) mirrors key small a ∙ held-is key small a
+  taken-holds key small a = taken_is g ok (tables_of g es) mirrors key small a ∙ held-is key small a
 
   matches-agree : (key : ℕ) → key < patterns g → taken_words g (tables_of g es) key ≡ bit_words (match_words g) (holding es key)
   unfolding taken_words
@@ -145,6 +151,9 @@ module _ (g : Geometry) (ok : valid g ≡ true) (es : Array) (sound : Sound g es
       }
   accepted-agrees (read a) p = record { answer = ap held (store_entry g f es sound a); tables = refl; sound = sound }
   accepted-agrees (first_match key) p = record { answer = first-agrees key ((pattern-passes g key).0 p.0); tables = refl; sound = sound }
+  accepted-agrees (next_match a key) p =
+      let inside : a < g.depth = (address-passes g a).0 p.0 in
+      record { answer = next-agrees a key inside ((pattern-passes g key).0 p.1.0); tables = refl; sound = sound }
   accepted-agrees (all_match key m) p =
       let small : key < patterns g = (pattern-passes g key).0 p.1.0 in
       record { answer = ap₂ matched (matches-agree key small) (hits-agree key small); tables = refl; sound = sound }

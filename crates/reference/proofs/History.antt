@@ -12,7 +12,7 @@ use Rattle.machines.proofs.Refusals.{passed_none, refusal-first, first-refusal, 
 use Rattle.geometry.specs.declared.Geometry.{Geometry}
 use Rattle.geometry.proofs.Facts.{facts}
 use Rattle.reference.specs.Entry.{empty}
-use Rattle.reference.specs.Calls.{Call, clear, write, erase, read, first_match, all_match, shape, lent, matches_after, refused, cleared}
+use Rattle.reference.specs.Calls.{Call, clear, write, erase, read, first_match, next_match, all_match, shape, lent, matches_after, refused, cleared}
 use Rattle.reference.specs.Array.{Array, emptied, entry_at, Sound, array_refusals, ArrayOutcome}
 use Rattle.reference.specs.Tables.{Tables, stored_entry}
 use Rattle.reference.specs.Image.{tables_of}
@@ -63,6 +63,7 @@ array-numbers g c n f = given-says _ (array_refusals g (shape c)) n (each c) (fi
     each (erase a) = (λ b. inl refl, tt)
     each (read a) = (λ b. inl refl, tt)
     each (first_match key) = (λ b. inr (inl refl), tt)
+    each (next_match a key) = (λ b. inl refl, (λ b. inr (inl refl), tt))
     each (all_match key m) = (λ b. inr (inr (refl, b)), (λ b. inr (inl refl), tt))
 
 -- ---- what each history keeps that begins with the tables of an array

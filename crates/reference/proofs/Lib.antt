@@ -17,3 +17,4 @@ pub mod Paper
 pub mod Line
 pub mod Padding
 pub mod Cases
+pub mod Walks

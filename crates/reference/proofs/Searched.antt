@@ -1,35 +1,36 @@
--- The searches on any tables: which sets a key indicates, and what both matches answer in terms of them.
-use Prim.Native.Nat.{ℕ, ◌+◌, ◌*◌, ◌/◌, ◌%◌, ◌^◌, ◌<◌, ◌≤◌}
+-- The searches on any tables: which sets a key indicates, and what the three matches answer in terms of them.
+use Prim.Native.Nat.{ℕ, suc, ◌+◌, ◌-◌, ◌*◌, ◌/◌, ◌%◌, ◌^◌, ◌<◌, ◌≤◌}
 use mathlib.Core.Path.{◌≡◌, refl, sym, ap, ◌∙◌}
 use mathlib.Core.Logic.{◌↔◌}
 use mathlib.Core.Bool.{Bool, true, false, not, ◌&&◌, ◌||◌, or-true, and-eq-true_iff, false≢true}
 use mathlib.Core.List.{List, [], ◌∷◌, foldr}
+use mathlib.Core.Option.{Option}
 use native.Mathlib.Nat.{le_trans, lt_of_le_of_lt, le_refl}
 use native.Mathlib.Omega.{arith}
 use lib.Dec.{eqb}
 use lib.Bits.{bit_and, and_le_r}
 use lib.ListN.{length, get_or}
 use borrow.Author.Tests.{ltb-true, lt-ltb, eqb-true, eq-eqb}
-use Rattle.words.specs.Rules.{count, member, First, Nowhere}
+use Rattle.words.specs.Rules.{count, member, onward, above, First, Nowhere}
 use Rattle.words.specs.Bits.{bit, row_mask, total_ones}
 use Rattle.words.specs.Seek.{Sought, found, missed}
-use Rattle.words.proofs.Rules.{any-witness, any-true, refuted, member-tabulate, first-unique, LowestIs, at_first, at_none, lowest-is}
+use Rattle.words.proofs.Rules.{any-witness, any-true, refuted, member-tabulate, first-unique, first-same, onward-here, onward-all, LowestIs, at_first, at_none, lowest-is}
 use Rattle.words.proofs.Bits.{bit-and, bit_mask, mask_lt, ones_below}
-use Rattle.words.proofs.Seek.{seek_found, seek-missed, row_word, row_first, row-nowhere}
+use Rattle.words.proofs.Seek.{seek_found, seek-missed, row_word, row_from-lt, row_first, row-nowhere}
 use Rattle.machines.specs.Refusals.{◌given-when◌, first_refusal}
 use Rattle.geometry.specs.declared.Geometry.{Geometry}
 use Rattle.geometry.specs.Valid.{valid, segmented}
-use Rattle.geometry.specs.Sizes.{patterns, sets, row_words, match_words, set_of, address_of, set_length}
+use Rattle.geometry.specs.Sizes.{patterns, sets, row_words, match_words, set_of, offset_of, address_of, set_length}
 use Rattle.geometry.specs.Stages.{stages, row_of, rows_of, indicator_words}
 use Rattle.geometry.proofs.Facts.{Facts, facts}
-use Rattle.geometry.proofs.Places.{sets-most, matches-most}
+use Rattle.geometry.proofs.Places.{length-alone, sets-most, matches-most}
 use Rattle.cover.specs.Image.{cell}
-use Rattle.reference.specs.Calls.{first_match, all_match, refused, matched}
+use Rattle.reference.specs.Calls.{first_match, next_match, all_match, refused, at, none, matched}
 use Rattle.reference.specs.Tables.{Tables, stored_word}
-use Rattle.reference.specs.Search.{joined, indicated, seek_word, seek_entry, lowest_set, Found, hit, nothing, false_set, is_false, in_set, first_found, any_is_false, answer_of, taken, taken_words}
+use Rattle.reference.specs.Search.{joined, indicated, joined_from, seek_word, seek_entry, seek_own, lowest_set, Found, hit, nothing, false_set, is_false, in_set, found_from, first_found, next_found, any_is_false, answer_of, next_of, taken, taken_words}
 use Rattle.reference.specs.Steps.{bad_matches, own_refusals, refusals, accepted, outcome, step}
-use Rattle.reference.specs.Statements.{stores, NoEqual, FirstOnAny, no-set, set-alone, equal-entry, AllOnAny, all-taken}
-use Rattle.reference.proofs.Limits.{lengths-pass, pattern-passes}
+use Rattle.reference.specs.Statements.{stores, NoEqual, FirstOnAny, NoneInOwn, NextOnAny, own-entry, AllOnAny, all-taken}
+use Rattle.reference.proofs.Limits.{lengths-pass, address-passes, pattern-passes}
 use Rattle.reference.proofs.Line.{line-length}
 
 module _ (g : Geometry) (t : Tables) (j : ℕ) where
@@ -117,60 +118,148 @@ module _ (g : Geometry) (t : Tables) (key : ℕ) where
       back (at_first o q first) (kind, nowhere) = absurd (false≢true (sym (nowhere o first.within) ∙ first.here))
       back (at_none q _) (kind, nowhere) = rw (kind, in_set, q)
 
-  -- what the first indicated set answers; after a hit in kind 2 its whole line was fetched
-  in-set : valid g ≡ true → length t.store ≡ g.depth → (s w : ℕ) → First (sets g) (indicated g t key) s → w ≡ s / 64 + 1
-      → FirstOnAny g t key (answer_of (in_set g t key s w))
-  unfolding in_set answer_of
-  in-set ok long s w first looks = go (eqb g.kind segmented) refl (entries-are s)
+-- What a search finds from a set on, by the first indicated set from there, where it looked at w words.
+data FoundOnAny (g : Geometry) (t : Tables) (key from : ℕ) (x : Found) : Type 0 where
+  unfound : Nowhere (sets g) (onward from (indicated g t key)) → x ≡ nothing (row_words g - from / 64) 0 → FoundOnAny g t key from x
+  by_set : (s w : ℕ) → First (sets g) (onward from (indicated g t key)) s → eqb g.kind segmented ≡ false → w + from / 64 ≡ s / 64 + 1
+      → x ≡ hit s w 0 → FoundOnAny g t key from x
+  by_entry : (s o w : ℕ) → First (sets g) (onward from (indicated g t key)) s → eqb g.kind segmented ≡ true → First (set_length g s) (equal_at g t key s) o
+      → w + from / 64 ≡ s / 64 + 1 → x ≡ hit (address_of g s o) w (set_length g s) → FoundOnAny g t key from x
+  by_false : (s : ℕ) → First (sets g) (onward from (indicated g t key)) s → NoEqual g t key s → x ≡ false_set → FoundOnAny g t key from x
+
+module _ (g : Geometry) (ok : valid g ≡ true) (t : Tables) (key from : ℕ) where
+  -- what the first indicated set gives; after a hit in kind 2 its whole line was fetched
+  in-set : length t.store ≡ g.depth → (s w : ℕ) → First (sets g) (onward from (indicated g t key)) s → w + from / 64 ≡ s / 64 + 1
+      → FoundOnAny g t key from (in_set g t key s w)
+  unfolding in_set
+  in-set long s w first looks = go (eqb g.kind segmented) refl (entries-are g t key s)
     where
-      go : (b : Bool) → eqb g.kind segmented ≡ b → LowestIs (set_length g s) (equal_at s) (seek_entry g t key s)
-          → FirstOnAny g t key (answer_of (in_set g t key s w))
-      go true p (at_first o q place) = equal-entry s o first p place (rw (p, in_set, q, looks, (line-length g t.store s ok long first.within).0))
-      go true p (at_none q nowhere) = FirstOnAny.no-equal s first (p, nowhere) (rw (p, in_set, q))
-      go false p r = set-alone s first p (rw (p, in_set, looks))
+      go : (b : Bool) → eqb g.kind segmented ≡ b → LowestIs (set_length g s) (equal_at g t key s) (seek_entry g t key s)
+          → FoundOnAny g t key from (in_set g t key s w)
+      go true p (at_first o q place) = by_entry s o w first p place looks (rw (p, in_set, q, (line-length g t.store s ok long first.within).0))
+      go true p (at_none q nowhere) = by_false s first (p, nowhere) (rw (p, in_set, q))
+      go false p r = by_set s w first p looks (rw (p, in_set))
 
--- no word of the row was found: no set is indicated, and every word was looked at
-words-missed : (g : Geometry) → Facts g → (t : Tables) (key w : ℕ) → seek_word g t key ≡ missed w → Nowhere (sets g) (indicated g t key) × (w ≡ row_words g)
-unfolding seek_word indicated
-words-missed g f t key w e =
-    let p = seek-missed (row_words g) _ w e in
-    (λ s l. row-nowhere (row_words g) (joined g t key) p.0 s (omega (arith, sets-most g f)), p.1)
+  -- no word of the row was found: no set is indicated, and every word was looked at
+  words-missed : (w : ℕ) → seek_word g t key from ≡ missed w → Nowhere (sets g) (onward from (indicated g t key)) × (w ≡ row_words g - from / 64)
+  unfolding seek_word indicated
+  words-missed w e =
+      let p = seek-missed (row_words g) (from / 64) _ w e in
+      (λ s l. row-nowhere (joined g t key) (joined-lt g t key) from (row_words g) p.0 s (omega (arith, sets-most g (facts g ok))), p.1)
 
--- the lowest set bit of the word found is the first indicated set, and the words up to it were looked at
-words-found : (g : Geometry) (t : Tables) (key j w : ℕ) → seek_word g t key ≡ found j w
-    → First (sets g) (indicated g t key) (lowest_set g t key j) × (w ≡ lowest_set g t key j / 64 + 1)
-unfolding seek_word indicated lowest_set
-words-found g t key j w e =
-    let p = seek_found (row_words g) _ j w e in
-    let first = row_first (row_words g) (joined g t key) (joined-lt g t key) j p.0 in (
-      record { within = ((indicated-means g t key _).0 first.here).0; here = first.here; none_before = first.none_before },
-      rw (row_word (joined g t key) (joined-lt g t key) j p.0.here) p.1,
-    )
+  -- the lowest set bit of the word found is the first indicated set, and the words up to it were looked at
+  words-found : (j w : ℕ) → seek_word g t key from ≡ found j w
+      → First (sets g) (onward from (indicated g t key)) (lowest_set g t key from j) × (w + from / 64 ≡ lowest_set g t key from j / 64 + 1)
+  unfolding seek_word indicated lowest_set
+  words-found j w e =
+      let p = seek_found (row_words g) (from / 64) _ j w e in
+      let first = row_first (joined g t key) (joined-lt g t key) from (row_words g) j p.0 in
+      let some : not (eqb (joined_from g t key from j) 0) ≡ true = (onward-here (λ i. not (eqb (joined_from g t key from i) 0)) (from / 64) j p.0.here).1 in
+      let same = row_word (joined_from g t key from) (row_from-lt (joined g t key) (joined-lt g t key) from) j some in (
+        record { within = ((indicated-means g t key _).0 (onward-here (indicated g t key) from _ first.here).1).0; here = first.here; none_before = first.none_before },
+        rw same p.1,
+      )
+
+  found_any : length t.store ≡ g.depth → FoundOnAny g t key from (found_from g t key from)
+  unfolding found_from
+  found_any long = go (seek_word g t key from) refl
+    where
+      go : (r : Sought) → seek_word g t key from ≡ r → FoundOnAny g t key from (found_from g t key from)
+      go (missed w) e = let p = words-missed w e in unfound p.0 (rw (found_from, e, p.1))
+      go (found j w) e = let p = words-found j w e in rw (found_from, e) (in-set long (lowest_set g t key from j) w p.0 p.1)
+
+-- ---- a first-match, from set 0 on
+
+-- the first set of all
+first-of-all : {n s : ℕ} (r : ℕ → Bool) → First n (onward 0 r) s → First n r s
+first-of-all r f = first-same (onward 0 r) r (onward-all r) f
+
+nowhere-at-all : {n : ℕ} (r : ℕ → Bool) → Nowhere n (onward 0 r) → Nowhere n r
+nowhere-at-all r h j l = sym (onward-all r j) ∙ h j l
 
 pub first_any : (g : Geometry) → valid g ≡ true → (t : Tables) → length t.store ≡ g.depth → (key : ℕ) → FirstOnAny g t key (answer_of (first_found g t key))
-unfolding first_found answer_of
-first_any g ok t long key = go (seek_word g t key) refl
+unfolding answer_of
+first_any g ok t long key = go (found_any g ok t key 0 long)
   where
-    go : (r : Sought) → seek_word g t key ≡ r → FirstOnAny g t key (answer_of (first_found g t key))
-    go (missed w) e = let p = words-missed g (facts g ok) t key w e in no-set p.0 (rw (first_found, e, p.1))
-    go (found j w) e = let p = words-found g t key j w e in rw (first_found, e) (in-set g t key ok long (lowest_set g t key j) w p.0 p.1)
+    go : FoundOnAny g t key 0 (first_found g t key) → FirstOnAny g t key (answer_of (first_found g t key))
+    go (unfound nowhere e) = FirstOnAny.no-set (nowhere-at-all _ nowhere) (rw e (ap (λ w. none w 0) (omega arith)))
+    go (by_set s w first k looks e) = FirstOnAny.set-alone s (first-of-all _ first) k (rw e (ap (λ w. at s w 0) (omega arith)))
+    go (by_entry s o w first k place looks e) =
+        FirstOnAny.equal-entry s o (first-of-all _ first) k place (rw e (ap (λ w. at (address_of g s o) w (set_length g s)) (omega arith)))
+    go (by_false s first bad e) = FirstOnAny.no-equal s (first-of-all _ first) bad (rw e)
+
+-- ---- a next-match, in the own set of its address and from the next set on
+
+module _ (g : Geometry) (t : Tables) (a key : ℕ) where
+  -- an entry of its own set that is the key and stands above it
+  abbrev pub own : ℕ → Bool
+  own = above (offset_of g a) (equal_at g t key (set_of g a))
+
+  pub own-is : LowestIs (set_length g (set_of g a)) own (seek_own g t a key)
+  unfolding seek_own
+  own-is = lowest-is (set_length g (set_of g a)) own
+
+  pub next_any : valid g ≡ true → length t.store ≡ g.depth → a < g.depth → NextOnAny g t a key (next_of (next_found g t a key))
+  unfolding next_found next_of
+  next_any ok long inside = go own-is
+    where
+      f : Facts g
+      f = facts g ok
+
+      -- where a set is one address there is none above it
+      of-many : (o : ℕ) → First (set_length g (set_of g a)) own o → (b : Bool) → eqb g.kind segmented ≡ b → b ≡ true
+      of-many o first true k = refl
+      of-many o first false k =
+          absurd (omega (arith, first.within, (onward-here (equal_at g t key (set_of g a)) (suc (offset_of g a)) o first.here).0, length-alone g f (set_of g a) k))
+
+      from_next : seek_own g t a key ≡ Option.none → NoneInOwn g t a key → FoundOnAny g t key (suc (set_of g a)) (found_from g t key (suc (set_of g a)))
+          → NextOnAny g t a key (next_of (next_found g t a key))
+      from_next q clear (unfound nowhere e) = NextOnAny.no-set clear nowhere (rw (next_found, q, e))
+      from_next q clear (by_set s w first k looks e) = NextOnAny.set-alone clear s first k (rw (next_found, q, e))
+      from_next q clear (by_entry s o w first k place looks e) = NextOnAny.equal-entry clear s o first k place (rw (next_found, q, e))
+      from_next q clear (by_false s first bad e) = NextOnAny.no-equal clear s first bad (rw (next_found, q, e))
+
+      go : LowestIs (set_length g (set_of g a)) own (seek_own g t a key) → NextOnAny g t a key (next_of (next_found g t a key))
+      go (at_first o q first) = own-entry o (of-many o first (eqb g.kind segmented) refl) first (rw (next_found, q))
+      go (at_none q nowhere) = from_next q nowhere (found_any g ok t key (suc (set_of g a)) long)
 
 -- ---- row 6 of the table
 
-pub first-false-means : (g : Geometry) → Facts g → (t : Tables) (key : ℕ)
-    → (is_false (first_found g t key) ≡ true) ↔ ((s : ℕ) × First (sets g) (indicated g t key) s × NoEqual g t key s)
-unfolding first_found is_false
-first-false-means g f t key = (there (seek_word g t key) refl, back (seek_word g t key) refl)
+-- The search from a set on comes to a false set exactly where the first indicated one from there is false.
+pub found-false-means : (g : Geometry) → valid g ≡ true → (t : Tables) (key from : ℕ)
+    → (is_false (found_from g t key from) ≡ true) ↔ ((s : ℕ) × First (sets g) (onward from (indicated g t key)) s × NoEqual g t key s)
+unfolding found_from is_false
+found-false-means g ok t key from = (there (seek_word g t key from) refl, back (seek_word g t key from) refl)
   where
-    there : (r : Sought) → seek_word g t key ≡ r → is_false (first_found g t key) ≡ true → (s : ℕ) × First (sets g) (indicated g t key) s × NoEqual g t key s
-    there (found j w) e h = (lowest_set g t key j, (words-found g t key j w e).0, (false-means g t key (lowest_set g t key j) w).0 (rw (first_found, e) at h))
-    there (missed w) e h = absurd (false≢true (rw (first_found, e) at h))
+    there : (r : Sought) → seek_word g t key from ≡ r → is_false (found_from g t key from) ≡ true
+        → (s : ℕ) × First (sets g) (onward from (indicated g t key)) s × NoEqual g t key s
+    there (found j w) e h =
+        (lowest_set g t key from j, (words-found g ok t key from j w e).0, (false-means g t key (lowest_set g t key from j) w).0 (rw (found_from, e) at h))
+    there (missed w) e h = absurd (false≢true (rw (found_from, e) at h))
 
-    back : (r : Sought) → seek_word g t key ≡ r → (s : ℕ) × First (sets g) (indicated g t key) s × NoEqual g t key s → is_false (first_found g t key) ≡ true
+    back : (r : Sought) → seek_word g t key from ≡ r → (s : ℕ) × First (sets g) (onward from (indicated g t key)) s × NoEqual g t key s
+        → is_false (found_from g t key from) ≡ true
     back (found j w) e (s, first, no-equal) =
-        let same = first-unique (sets g) (indicated g t key) s (lowest_set g t key j) first (words-found g t key j w e).0 in
-        rw (first_found, e) ((false-means g t key (lowest_set g t key j) w).1 (rw same at no-equal))
-    back (missed w) e (s, first, no-equal) = absurd (false≢true (sym ((words-missed g f t key w e).0 s first.within) ∙ first.here))
+        let same = first-unique (sets g) (onward from (indicated g t key)) s (lowest_set g t key from j) first (words-found g ok t key from j w e).0 in
+        rw (found_from, e) ((false-means g t key (lowest_set g t key from j) w).1 (rw same at no-equal))
+    back (missed w) e (s, first, no-equal) = absurd (false≢true (sym ((words-missed g ok t key from w e).0 s first.within) ∙ first.here))
+
+-- A next-match does where its own set gave nothing and the first indicated set behind that one is false.
+pub next-false-means : (g : Geometry) → valid g ≡ true → (t : Tables) (a key : ℕ)
+    → (is_false (next_found g t a key) ≡ true)
+    ↔ (NoneInOwn g t a key × ((s : ℕ) × First (sets g) (above (set_of g a) (indicated g t key)) s × NoEqual g t key s))
+unfolding next_found is_false
+next-false-means g ok t a key = (there (own-is g t a key), back (own-is g t a key))
+  where
+    there : LowestIs (set_length g (set_of g a)) (own g t a key) (seek_own g t a key) → is_false (next_found g t a key) ≡ true
+        → NoneInOwn g t a key × ((s : ℕ) × First (sets g) (above (set_of g a) (indicated g t key)) s × NoEqual g t key s)
+    there (at_first o q first) h = absurd (false≢true (rw (next_found, q) at h))
+    there (at_none q nowhere) h = (nowhere, (found-false-means g ok t key (suc (set_of g a))).0 (rw (next_found, q) at h))
+
+    back : LowestIs (set_length g (set_of g a)) (own g t a key) (seek_own g t a key)
+        → NoneInOwn g t a key × ((s : ℕ) × First (sets g) (above (set_of g a) (indicated g t key)) s × NoEqual g t key s) → is_false (next_found g t a key) ≡ true
+    back (at_first o q first) (nowhere, bad) = absurd (false≢true (sym (nowhere o first.within) ∙ first.here))
+    back (at_none q _) (nowhere, bad) = rw (next_found, q) ((found-false-means g ok t key (suc (set_of g a))).1 bad)
 
 pub any-false-means : (g : Geometry) (t : Tables) (key : ℕ)
     → (any_is_false g t key ≡ true) ↔ ((s : ℕ) × (s < sets g) × (indicated g t key s ≡ true) × NoEqual g t key s)
@@ -219,7 +308,7 @@ pub taken-counted : (g : Geometry) → Facts g → (t : Tables) (key : ℕ) → 
 unfolding taken_words
 taken-counted g f t key = ones_below (match_words g) g.depth (taken g t key) (matches-most g f) (taken-past g t key)
 
--- ---- the two calls
+-- ---- the three calls
 
 false-answer : (x : Found) → is_false x ≡ true → answer_of x ≡ refused 6
 unfolding is_false answer_of
@@ -227,7 +316,13 @@ false-answer (hit a w c) h = absurd (false≢true h)
 false-answer (nothing w c) h = absurd (false≢true h)
 false-answer false_set h = refl
 
--- A geometry, tables of its lengths and a pattern of it: nothing else is asked.
+false-next : (x : Found) → is_false x ≡ true → next_of x ≡ refused 6
+unfolding is_false next_of
+false-next (hit a w c) h = absurd (false≢true h)
+false-next (nothing w c) h = absurd (false≢true h)
+false-next false_set h = refl
+
+-- A geometry, tables of its lengths and a pattern of it, and for a next-match an address: nothing else is asked.
 module _ (g : Geometry) (ok : valid g ≡ true) (t : Tables) (stored : length t.store ≡ g.depth) (words : length t.indicators ≡ indicator_words g)
     (key : ℕ) (small : key < patterns g) where
   pub first-match-any : FirstOnAny g t key (step g t (first_match key)).answer
@@ -237,6 +332,15 @@ module _ (g : Geometry) (ok : valid g ≡ true) (t : Tables) (stored : length t.
       go : (b : Bool) → is_false (first_found g t key) ≡ b → FirstOnAny g t key (outcome g t (first_match key) (first_refusal (6 given-when b ∷ []))).answer
       go true e = rw (false-answer (first_found g t key) e) at (first_any g ok t stored key)
       go false e = first_any g ok t stored key
+
+  pub next-match-any : (a : ℕ) → a < g.depth → NextOnAny g t a key (step g t (next_match a key)).answer
+  unfolding step outcome refusals own_refusals bad_matches first_refusal accepted
+  next-match-any a inside =
+      rw (ok, (lengths-pass g t).1 (stored, words), (address-passes g a).1 inside, (pattern-passes g key).1 small) (go (is_false (next_found g t a key)) refl)
+    where
+      go : (b : Bool) → is_false (next_found g t a key) ≡ b → NextOnAny g t a key (outcome g t (next_match a key) (first_refusal (6 given-when b ∷ []))).answer
+      go true e = rw (false-next (next_found g t a key) e) at (next_any g t a key ok stored inside)
+      go false e = next_any g t a key ok stored inside
 
   pub all-match-any : (m : List ℕ) → length m ≡ match_words g → AllOnAny g t key (step g t (all_match key m)).answer
   unfolding step outcome refusals own_refusals bad_matches first_refusal accepted

@@ -1,5 +1,6 @@
--- The six calls with all that each is given, and the answers (docs/MEMORY.md, section 7).
+-- The seven calls with all that each is given, and the answers (docs/MEMORY.md, section 7).
 use Rattle.std.specs.Prelude.{ℕ, List, [], length}
+use Rattle.std.proofs.Math.Option.{Option}
 use Rattle.reference.specs.Entry.{Entry}
 
 -- The match word of an all-match is any (rule 10.1). The plain array is told its length alone (rule 5.8), so a call is over what
@@ -10,6 +11,7 @@ pub data Call (M : Type 0) : Type 0 where
   erase : (address : ℕ) → Call M
   read : (address : ℕ) → Call M
   first_match : (key : ℕ) → Call M
+  next_match : (address key : ℕ) → Call M
   all_match : (key : ℕ) (lent : M) → Call M
 
 -- What the plain array is told of a call.
@@ -19,6 +21,7 @@ shape (write a p) = write a p
 shape (erase a) = erase a
 shape (read a) = read a
 shape (first_match key) = first_match key
+shape (next_match a key) = next_match a key
 shape (all_match key m) = all_match key (length m)
 
 -- The match word that is lent with a call: nothing but with all-match.
@@ -28,15 +31,17 @@ lent (write a p) = []
 lent (erase a) = []
 lent (read a) = []
 lent (first_match key) = []
+lent (next_match a key) = []
 lent (all_match key m) = m
 
--- What comes back (rules 7.3 to 7.6). `words-read` is w and `entries-compared` is c.
+-- What comes back (rules 7.3 to 7.6 and 7.8). `words-read` is w and `entries-compared` is c.
 pub data Answer : Type 0 where
   refused : (number : ℕ) → Answer
   cleared : Answer
   held : (previous : Entry) → Answer
   at : (address words-read entries-compared : ℕ) → Answer
   none : (words-read entries-compared : ℕ) → Answer
+  next : (address : Option ℕ) → Answer
   matched : (matches : List ℕ) (hits : ℕ) → Answer
 
 -- The match word that a call leaves: the one in its answer, and the lent one where the answer has none.
@@ -46,4 +51,5 @@ matches_after cleared m = m
 matches_after (held e) m = m
 matches_after (at a w c) m = m
 matches_after (none w c) m = m
+matches_after (next x) m = m
 matches_after (matched ws n) m = ws

@@ -9,7 +9,7 @@ use Rattle.geometry.specs.Sizes.{sets}
 use Rattle.geometry.specs.Stages.{rows, indicator_words}
 use Rattle.cover.specs.Image.{cell, covered}
 use Rattle.reference.specs.Entry.{Entry, empty, pattern}
-use Rattle.reference.specs.Calls.{Call, clear, write, erase, read, first_match, all_match, Answer, refused, cleared, held, at, none, matched}
+use Rattle.reference.specs.Calls.{Call, clear, write, erase, read, first_match, next_match, all_match, Answer, refused, cleared, held, at, none, next, matched}
 use Rattle.reference.specs.Array.{Array}
 use Rattle.reference.specs.Tables.{Tables}
 use Rattle.reference.specs.Image.{store_cover}
@@ -70,6 +70,9 @@ cases =
     ∷ cleared-first deep (unclear 65 4) (write 64 1 ∷ first_match 1 ∷ []) (held empty ∷ at 64 2 0 ∷ [])
     -- P9
     ∷ on_s (erase 5 ∷ []) (held empty ∷ [])
+    -- a walk: two addresses of set 0 and one of set 3, then none
+    ∷ on_s (write 6 3 ∷ write 1 3 ∷ write 0 3 ∷ first_match 3 ∷ next_match 0 3 ∷ next_match 1 3 ∷ next_match 6 3 ∷ [])
+    (held empty ∷ held empty ∷ held empty ∷ at 0 1 2 ∷ next (Option.some 1) ∷ next (Option.some 6) ∷ next Option.none ∷ [])
     -- P10
     ∷ record { geometry = S; tables = damaged; calls = first_match 1 ∷ []; answers = refused 6 ∷ [] }
     ∷ []
@@ -100,6 +103,9 @@ writes g st ind c x st' ind' = trial g st ind c x st' ind' []
 
 abbrev pub answers_with : Geometry → (store indicators : List ℕ) → Call (List ℕ) → Answer → (matches : List ℕ) → Trial
 answers_with g st ind c x m = trial g st ind c x st ind m
+
+abbrev pub found_next : Geometry → (store indicators : List ℕ) → (address key : ℕ) → Option ℕ → Trial
+found_next g st ind a key x = answers_with g st ind (next_match a key) (next x) []
 
 abbrev pub refuses : Geometry → (store indicators : List ℕ) → Call (List ℕ) → (number : ℕ) → (lent : List ℕ) → Trial
 refuses g st ind c n m = answers_with g st ind c (refused n) m
@@ -158,6 +164,28 @@ trials =
     -- 4 before 6: the row of 4 would be that of 0, whose set 0 is false
     ∷ refuses S (stored E E E E) (1 ∷ 0 ∷ 0 ∷ 0 ∷ []) (first_match 4) 4 []
     ∷ refuses S (stored E E E E) (1 ∷ 0 ∷ 0 ∷ 0 ∷ []) (all_match 4 (9 ∷ [])) 4 (9 ∷ [])
+    -- a next-match: 3 before 4, 4 before 6, and no 5
+    ∷ refuses S (stored E E E E) zeros (next_match 8 4) 3 []
+    ∷ refuses S (stored E E E E) (2 ∷ 0 ∷ 0 ∷ 0 ∷ []) (next_match 0 4) 4 []
+    ∷ found_next S (stored 4 E 1 E) (row1 2) 0 1 (Option.some 2)
+    -- its own set by the store alone, above its address alone, and never 6
+    ∷ found_next S (stored 1 1 E E) zeros 0 1 (Option.some 1)
+    ∷ found_next S (stored 1 E E E) (row1 1) 0 1 Option.none
+    ∷ found_next wide (1 ∷ 1 ∷ E ∷ 1 ∷ 1 ∷ E ∷ E ∷ E ∷ []) (0 ∷ 3 ∷ []) 1 1 (Option.some 3)
+    -- then the first indicated set behind it, whose first equal entry is the answer
+    ∷ found_next S (stored 1 E E 1) (row1 3) 0 1 (Option.some 3)
+    ∷ found_next S (stored 1 E 1 1) (row1 2) 1 1 (Option.some 2)
+    ∷ refuses S (1 ∷ E ∷ E ∷ E ∷ 1 ∷ E ∷ E ∷ E ∷ []) (row1 7) (next_match 0 1) 6 []
+    ∷ found_next S (stored 1 E E E) (row1 17) 0 1 Option.none
+    ∷ found_next S (stored 1 E E E) (row1 15) 7 1 Option.none
+    -- kinds 0 and 1 go by their indicators alone
+    ∷ found_next (alone 0) (E ∷ E ∷ E ∷ E ∷ []) (0 ∷ 12 ∷ []) 2 1 (Option.some 3)
+    ∷ found_next (alone 1) (1 ∷ 1 ∷ 1 ∷ 1 ∷ []) (0 ∷ 4 ∷ []) 2 1 Option.none
+    -- rows of two words: set 1 in the first, set 64 in the second
+    ∷ found_next deep (replicate 65 E) (0 ∷ 0 ∷ 2 ∷ 1 ∷ []) 0 1 (Option.some 1)
+    ∷ found_next deep (replicate 65 E) (0 ∷ 0 ∷ 2 ∷ 1 ∷ []) 1 1 (Option.some 64)
+    ∷ found_next deep (replicate 65 E) (0 ∷ 0 ∷ 2 ∷ 1 ∷ []) 63 1 (Option.some 64)
+    ∷ found_next deep (replicate 65 E) (0 ∷ 0 ∷ 2 ∷ 1 ∷ []) 64 1 Option.none
     -- a padding bit alone indicates nothing, and a write leaves it
     ∷ answers_with S (stored E E E E) (row1 16) (first_match 1) (none 1 0) []
     ∷ answers_with S (stored E E E E) (row1 16) (all_match 1 (9 ∷ [])) (matched (0 ∷ []) 0) (0 ∷ [])

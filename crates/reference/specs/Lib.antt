@@ -10,5 +10,6 @@ pub mod Steps
 pub mod Resume
 pub mod History
 pub mod Statements
+pub mod Walks
 pub mod Line
 pub mod Cases

@@ -3,16 +3,17 @@
 use Rattle.std.specs.Prelude.{ℕ, ◌+◌, ◌*◌, ◌/◌, ◌%◌, ◌^◌, ◌<◌, ◌≡◌, Bool, true, false, cond, not, ◌&&◌, ◌⊎◌, eqb, length, get_or}
 use mathlib.Core.List.{List, ◌++◌, map, zip_with}
 use Rattle.std.proofs.Math.Option as Option
-use Rattle.words.specs.Rules.{any, count, First, Nowhere}
+use Rattle.words.specs.Rules as rule
+use Rattle.words.specs.Rules.{any, count, above, First, Nowhere}
 use Rattle.words.specs.Bits.{bit, bit_words}
 use Rattle.geometry.specs.declared.Geometry.{Geometry}
 use Rattle.geometry.specs.Valid.{segmented, valid}
-use Rattle.geometry.specs.Sizes.{patterns, sets, row_words, match_words, set_of, address_of, set_length}
+use Rattle.geometry.specs.Sizes.{patterns, sets, row_words, match_words, set_of, offset_of, address_of, set_length}
 use Rattle.geometry.specs.Stages.{stages, stage_width, stage, rows, indicator_words}
 use Rattle.cover.specs.Image.{cell, belongs, covered}
 use Rattle.cover.specs.Change.{others_cover}
 use Rattle.reference.specs.Entry.{Entry, empty, pattern, empty_word, word_of, holds}
-use Rattle.reference.specs.Calls.{Call, clear, Answer, refused, cleared, at, none, matched, shape, lent, matches_after}
+use Rattle.reference.specs.Calls.{Call, clear, Answer, refused, cleared, at, none, next, matched, shape, lent, matches_after}
 use Rattle.reference.specs.Array.{Array, Sound}
 use Rattle.reference.specs.Tables.{Tables, stored_word, stored_entry}
 use Rattle.reference.specs.Image.{covers, store_cover, tables_of}
@@ -86,6 +87,25 @@ pub data FirstOnAny (g : Geometry) (t : Tables) (key : ℕ) (answer : Answer) : 
       → answer ≡ at (address_of g s o) (s / 64 + 1) (set_length g s) → FirstOnAny g t key answer
   no-equal : (s : ℕ) → First (sets g) (indicated g t key) s → NoEqual g t key s → answer ≡ refused 6 → FirstOnAny g t key answer
 
+-- No entry of an address's own set above it is the key.
+abbrev pub NoneInOwn : Geometry → Tables → (a key : ℕ) → Type 0
+NoneInOwn g t a key = Nowhere (set_length g (set_of g a)) (above (offset_of g a) (λ o. stores t key (address_of g (set_of g a) o)))
+
+-- What a next-match answers: in kind 2 the first equal entry above the address in its own set, indicated or not (rule 8.13); else the first
+-- indicated set after that one decides as in a first-match (rules 8.9 and 8.14).
+pub data NextOnAny (g : Geometry) (t : Tables) (a key : ℕ) (answer : Answer) : Type 0 where
+  own-entry : (o : ℕ) → eqb g.kind segmented ≡ true
+      → First (set_length g (set_of g a)) (above (offset_of g a) (λ o. stores t key (address_of g (set_of g a) o))) o
+      → answer ≡ next (Option.some (address_of g (set_of g a) o)) → NextOnAny g t a key answer
+  no-set : NoneInOwn g t a key → Nowhere (sets g) (above (set_of g a) (indicated g t key)) → answer ≡ next Option.none → NextOnAny g t a key answer
+  set-alone : NoneInOwn g t a key → (s : ℕ) → First (sets g) (above (set_of g a) (indicated g t key)) s → eqb g.kind segmented ≡ false
+      → answer ≡ next (Option.some s) → NextOnAny g t a key answer
+  equal-entry : NoneInOwn g t a key → (s o : ℕ) → First (sets g) (above (set_of g a) (indicated g t key)) s → eqb g.kind segmented ≡ true
+      → First (set_length g s) (λ o. stores t key (address_of g s o)) o
+      → answer ≡ next (Option.some (address_of g s o)) → NextOnAny g t a key answer
+  no-equal : NoneInOwn g t a key → (s : ℕ) → First (sets g) (above (set_of g a) (indicated g t key)) s → NoEqual g t key s
+      → answer ≡ refused 6 → NextOnAny g t a key answer
+
 -- What an all-match answers: 6 where some indicated set is false (rule 8.9); else every address of an indicated set, in kind 2
 -- those that have the key (rule 8.8).
 pub data AllOnAny (g : Geometry) (t : Tables) (key : ℕ) (answer : Answer) : Type 0 where
@@ -116,6 +136,10 @@ pub data FirstIs (g : Geometry) (t : Tables) (key : ℕ) (answer : Answer) : Typ
       → answer ≡ at a (a / (64 * g.set_width) + 1) (cond (eqb g.kind segmented) (set_length g (set_of g a)) 0)
       → FirstIs g t key answer
   absent : Nowhere g.depth (stores t key) → answer ≡ none (row_words g) 0 → FirstIs g t key answer
+
+-- A next-match answers with the smallest address above its own that has the key, or with none where none has (rule 8.11).
+abbrev pub NextIs : Geometry → Tables → (a key : ℕ) → Answer → Type 0
+NextIs g t a key answer = answer ≡ next (rule.lowest g.depth (above a (stores t key)))
 
 -- An all-match answers with the word in which the bit of each address says whether it has the key, and with their number
 -- (rule 8.11).

@@ -1,4 +1,4 @@
--- The six calls on any tables: any geometry, any lengths, any content (docs/MEMORY.md, sections 8 and 9).
+-- The seven calls on any tables: any geometry, any lengths, any content (docs/MEMORY.md, sections 8 and 9).
 use Rattle.std.specs.Prelude.{ℕ, Bool, false, not, ◌||◌, List, [], ◌∷◌, eqb, ltb, length, replicate}
 use Rattle.std.proofs.Math.Option.{Option}
 use Rattle.words.specs.Bits.{total_ones}
@@ -8,11 +8,11 @@ use Rattle.geometry.specs.Valid.{valid}
 use Rattle.geometry.specs.Sizes.{patterns, match_words}
 use Rattle.geometry.specs.Stages.{indicator_words, tables_fit}
 use Rattle.reference.specs.Entry.{empty, pattern, empty_word}
-use Rattle.reference.specs.Calls.{Call, clear, write, erase, read, first_match, all_match, Answer, refused, cleared, held, matched, lent}
+use Rattle.reference.specs.Calls.{Call, clear, write, erase, read, first_match, next_match, all_match, Answer, refused, cleared, held, matched, lent}
 use Rattle.reference.specs.Refusals.{bad_address, bad_pattern}
 use Rattle.reference.specs.Tables.{Tables, stored_word, stored_entry}
 use Rattle.reference.specs.Update.{replaced}
-use Rattle.reference.specs.Search.{is_false, first_found, any_is_false, answer_of, taken_words}
+use Rattle.reference.specs.Search.{is_false, first_found, next_found, any_is_false, answer_of, next_of, taken_words}
 
 -- Refusal 2, by the tables (rule 9.1).
 unfoldable pub bad_lengths : Geometry → Tables → Bool
@@ -25,6 +25,7 @@ bad_matches g (write a p) = false
 bad_matches g (erase a) = false
 bad_matches g (read a) = false
 bad_matches g (first_match key) = false
+bad_matches g (next_match a key) = false
 bad_matches g (all_match key m) = not (eqb (length m) (match_words g))
 
 -- Refusal 5.
@@ -38,6 +39,8 @@ own_refusals g t (write a p) = 3 given-when bad_address g a ∷ 4 given-when bad
 own_refusals g t (erase a) = 3 given-when bad_address g a ∷ 5 given-when bad_entry g t a ∷ []
 own_refusals g t (read a) = 3 given-when bad_address g a ∷ 5 given-when bad_entry g t a ∷ []
 own_refusals g t (first_match key) = 4 given-when bad_pattern g key ∷ 6 given-when is_false (first_found g t key) ∷ []
+own_refusals g t (next_match a key) =
+    3 given-when bad_address g a ∷ 4 given-when bad_pattern g key ∷ 6 given-when is_false (next_found g t a key) ∷ []
 own_refusals g t (all_match key m) = 4 given-when bad_pattern g key ∷ 6 given-when any_is_false g t key ∷ []
 
 -- The whole table at a call (rule 9.1).
@@ -54,13 +57,14 @@ pub record Outcome : Type 0 where
 unfoldable pub clear_tables : Geometry → Tables
 clear_tables g = record { store = replicate g.depth empty_word; indicators = replicate (indicator_words g) 0 }
 
--- The calls, where nothing stops them (rules 7.3 to 7.6, 8.1 to 8.8).
+-- The calls, where nothing stops them (rules 7.3 to 7.8, 8.1 to 8.8, 8.13 and 8.14).
 unfoldable pub accepted : Geometry → Tables → Call (List ℕ) → Outcome
 accepted g t clear = record { answer = cleared; tables = clear_tables g; matches = [] }
 accepted g t (write a p) = record { answer = held (stored_entry g t a); tables = replaced g t a (pattern p); matches = [] }
 accepted g t (erase a) = record { answer = held (stored_entry g t a); tables = replaced g t a empty; matches = [] }
 accepted g t (read a) = record { answer = held (stored_entry g t a); tables = t; matches = [] }
 accepted g t (first_match key) = record { answer = answer_of (first_found g t key); tables = t; matches = [] }
+accepted g t (next_match a key) = record { answer = next_of (next_found g t a key); tables = t; matches = [] }
 accepted g t (all_match key m) = record {
   answer = matched (taken_words g t key) (total_ones (taken_words g t key));
   tables = t;

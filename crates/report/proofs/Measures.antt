@@ -2,11 +2,12 @@
 use Prim.Native.Nat.{ℕ, ◌+◌, ◌*◌, ◌^◌, ◌<◌, ◌≤◌}
 use mathlib.Core.Path.{◌≡◌, refl}
 use mathlib.Core.List.{List, [], ◌∷◌, map}
+use mathlib.Core.Option.{Option}
 use native.Mathlib.Omega.{arith}
 use lib.ListN.{length, length-append}
 use Rattle.geometry.specs.declared.Geometry.{Geometry}
 use Rattle.reference.specs.Entry.{Entry, empty, pattern}
-use Rattle.reference.specs.Calls.{Answer, refused, cleared, held, at, none, matched}
+use Rattle.reference.specs.Calls.{Answer, refused, cleared, held, at, none, next, matched}
 use Rattle.figures.specs.Figures.{ascii, hexadecimal}
 use Rattle.figures.proofs.Lengths.{decimal-most, hexadecimal-long}
 use Rattle.answers.specs.Items.{ended, entry_text, answer_items}
@@ -24,6 +25,8 @@ Small cleared = Unit
 Small (held e) = (p : ℕ) → e ≡ pattern p → p < 10 ^ 10
 Small (at a w c) = (a < 10 ^ 4) × (w < 10 ^ 4) × (c < 10 ^ 4)
 Small (none w c) = (w < 10 ^ 4) × (c < 10 ^ 4)
+Small (next (Option.some a)) = a < 10 ^ 4
+Small (next Option.none) = Unit
 Small (matched ws hits) = (length ws ≤ 16) × (hits < 10 ^ 4)
 
 entry-most : (e : Entry) → Small (held e) → length (entry_text e) ≤ 10
@@ -38,6 +41,8 @@ items-most cleared s = omega arith
 items-most (held e) s = simp length-append (omega (arith, entry-most e s))
 items-most (at a w c) s = simp length-append (omega (arith, decimal-most 3 a s.0, decimal-most 3 w s.1, decimal-most 3 c s.2))
 items-most (none w c) s = simp length-append (omega (arith, decimal-most 3 w s.0, decimal-most 3 c s.1))
+items-most (next (Option.some a)) s = simp length-append (omega (arith, decimal-most 3 a s))
+items-most (next Option.none) s = omega arith
 items-most (matched ws hits) s = simp length-append (omega (arith, decimal-most 3 hits s.1, words_long ws))
 
 pub answer-line-most : (k : ℕ) (x : Answer) → k < 10 ^ 4 → Small x → length (answer_line k x) ≤ 287

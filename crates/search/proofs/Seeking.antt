@@ -1,20 +1,19 @@
--- The searches as the code makes them: the rows of a key joined one by one, the bits of a joined word, and first-match's two
--- searches, a turn and each end of them.
+-- The searches as the code makes them: the rows of a key joined one by one, the bits of a joined word, and the two searches of a search
+-- from a set on, a turn and each end of them.
 use Rattle.std.proofs.Common.{ℕ, zero, suc, ◌+◌, ◌-◌, ◌*◌, ◌/◌, ◌%◌, ◌<◌, ◌≤◌, ◌≡◌, refl, sym, ap, ◌∙◌, Bool, true, false, List, [], ◌∷◌, length, get_or, drop, eqb, ltb, arith}
-use mathlib.Core.Bool.{not, false≢true}
+use mathlib.Core.Bool.{not, cond, and-eq-true_iff, false≢true}
 use mathlib.Core.List.{foldr, map}
-use native.Mathlib.Nat.{sub-zero}
 use lib.Bits.{bit_and}
 use lib.Count.{count_trailing_zeros}
 use borrow.Author.Tests.{ltb-true, ltb-false, eq-eqb, ne_eqb}
 use Rattle.std.specs.List.{range_with_len, fold}
 use Rattle.std.proofs.lemmas.Nat.{and_comm, and_assoc}
 use Rattle.words.specs.Rules.{First, Nowhere}
-use Rattle.words.specs.Bits.{row_mask}
-use Rattle.words.specs.Seek.{Sought, seek}
+use Rattle.words.specs.Bits.{bit, bits_from, row_mask}
+use Rattle.words.specs.Seek.{Sought, seek, row_from}
 use Rattle.words.proofs.Rules.{lowest-first, lowest-nowhere}
-use Rattle.words.proofs.Seek.{seek-on, seek-here, seek-over}
-use Rattle.words.proofs.Bits.{bit-out, trailing-lowest}
+use Rattle.words.proofs.Seek.{seek-on, seek-here, seek-over, row_from-lt}
+use Rattle.words.proofs.Bits.{bit-from, bit-out, trailing-lowest}
 use Rattle.geometry.specs.declared.Geometry.{Geometry}
 use Rattle.geometry.specs.declared.Kind.{Kind}
 use Rattle.geometry.specs.declared.Kind.TheVariants.{Transposed, Cascaded, Segmented}
@@ -28,7 +27,7 @@ use Rattle.geometry.proofs.Stages.{rows_drop, rows-over}
 use Rattle.sizes.specs.declared.layout.Layout.{Layout}
 use Rattle.reference.specs.Tables.{Tables, stored_word}
 use Rattle.reference.specs.Calls.{refused, at, none}
-use Rattle.reference.specs.Search.{joined, indicated, seek_word, seek_entry, lowest_set, in_set, first_found, answer_of}
+use Rattle.reference.specs.Search.{joined, indicated, joined_from, seek_word, seek_entry, lowest_set, in_set, found_from, answer_of}
 use Rattle.reference.proofs.Line.{line-length}
 use Rattle.reference.proofs.Searched.{indicated-means, joined-lt, equal_at}
 use Rattle.search.specs.Rows.{InSets}
@@ -73,7 +72,16 @@ joined-in-sets g t key j b h = go (ltb b 64) refl
         ((indicated-means g t key (64 * j + b)).0 (rw (word, place) h)).0
     go false e = absurd (false≢true (sym (bit-out 64 (joined g t key j) b (joined-lt g t key j) (ltb-false b 64 e)) ∙ h))
 
--- ---- first-match: its two searches, and what it finds where they stop
+-- so are those of the word as a search from a set on has it
+searched-in-sets : (g : Geometry) (t : Tables) (key from j : ℕ) → InSets g (joined_from g t key from j) j
+unfolding row_from
+searched-in-sets g t key from j b h = joined-in-sets g t key j b (go (eqb j (from / 64)) h)
+  where
+    go : (x : Bool) → bit (cond x (bits_from (joined g t key j) (from % 64)) (joined g t key j)) b ≡ true → bit (joined g t key j) b ≡ true
+    go true h = ((and-eq-true_iff _ _).0 (sym (bit-from (joined g t key j) (from % 64) b) ∙ h)).1
+    go false h = h
+
+-- ---- a search from a set on: its two searches, and what it finds where they stop
 
 -- what the code finds of the kind
 module _ (l : Layout) where
@@ -88,56 +96,61 @@ module _ (l : Layout) where
       go Cascaded ne = refl
       go Segmented ne = absurd (ne refl)
 
--- the row words from j on, after some looks
-abbrev pub words_from : Geometry → Tables → (key j looks : ℕ) → Sought
-words_from g t key j l = seek (λ i. not (eqb (joined g t key i) 0)) (row_words g - j) j l
+-- the row words from j on, in a search from a set on, after some looks
+abbrev pub words_from : Geometry → Tables → (key from j looks : ℕ) → Sought
+words_from g t key s j l = seek (λ i. not (eqb (joined_from g t key s i) 0)) (row_words g - j) j l
 
--- The lowest bit of the first row word that is not 0 names set s, so that first-match finds what it finds there.
-pub record Named (g : Geometry) (t : Tables) (key s looks : ℕ) : Type 0 where
+-- The lowest bit of the first row word that is not 0 names set s, so that the search finds what it finds there.
+pub record Named (g : Geometry) (t : Tables) (key from s looks : ℕ) : Type 0 where
   pub inside : s < sets g
-  pub finds : first_found g t key ≡ in_set g t key s looks
+  pub finds : found_from g t key from ≡ in_set g t key s looks
 
-module _ (g : Geometry) (t : Tables) (key : ℕ) where
-  pub words-start : (j : ℕ) → j ≡ 0 → words_from g t key j 0 ≡ seek_word g t key
+module _ (g : Geometry) (t : Tables) (key from : ℕ) where
+  pub words-start : (j : ℕ) → j ≡ from / 64 → words_from g t key from j 0 ≡ seek_word g t key from
   unfolding seek_word
-  words-start j e = rw (e, sub-zero)
+  words-start j e = rw e refl
 
   -- the search has come to row word j
-  module _ (j looks : ℕ) (come : words_from g t key j looks ≡ seek_word g t key) where
-    pub words-over : row_words g ≤ j → none looks 0 ≡ answer_of (first_found g t key)
-    unfolding first_found answer_of
-    words-over h = rw (← come, seek-over _ (row_words g) j looks h, first_found)
+  module _ (j looks : ℕ) (come : words_from g t key from j looks ≡ seek_word g t key from) where
+    pub words-over : row_words g ≤ j → none looks 0 ≡ answer_of (found_from g t key from)
+    unfolding found_from answer_of
+    words-over h = rw (← come, seek-over _ (row_words g) j looks h, found_from)
 
     -- and it is read
-    module _ (word : ℕ) (inside : j < row_words g) (is : word ≡ joined g t key j) where
-      pub words-on : word ≡ 0 → words_from g t key (j + 1) (looks + 1) ≡ seek_word g t key
-      words-on e = seek-on _ (row_words g) j looks inside (rw (← is, eq-eqb word 0 e)) ∙ come
+    module _ (joint word : ℕ) (inside : j < row_words g) (joins : joint ≡ joined g t key j)
+        (is : word ≡ cond (eqb j (from / 64)) (bits_from joint (from % 64)) joint) where
+      searched : word ≡ joined_from g t key from j
+      unfolding row_from
+      searched = is ∙ rw joins refl
 
-      pub named : (word ≡ 0 → ⊥) → {s : ℕ} → s ≡ 64 * j + count_trailing_zeros 64 word → Named g t key s (looks + 1)
-      unfolding first_found lowest_set
+      pub words-on : word ≡ 0 → words_from g t key from (j + 1) (looks + 1) ≡ seek_word g t key from
+      words-on e = seek-on _ (row_words g) j looks inside (rw (← searched, eq-eqb word 0 e)) ∙ come
+
+      pub named : (word ≡ 0 → ⊥) → {s : ℕ} → s ≡ 64 * j + count_trailing_zeros 64 word → Named g t key from s (looks + 1)
+      unfolding found_from lowest_set
       named some e =
-          let low = trailing-lowest 64 word (rw is (joined-lt g t key j)) (omega arith) in
-          let of-sets : InSets g word j = rw is (joined-in-sets g t key j) in
-          let here = sym come ∙ seek-here _ (row_words g) j looks inside (rw (← is, ne_eqb word 0 some)) in
-          rw e (record { inside = of-sets _ low.here; finds = rw (here, first_found, is) })
+          let low = trailing-lowest 64 word (rw searched (row_from-lt (joined g t key) (joined-lt g t key) from j)) (omega arith) in
+          let of-sets : InSets g word j = rw searched (searched-in-sets g t key from j) in
+          let here = sym come ∙ seek-here _ (row_words g) j looks inside (rw (← searched, ne_eqb word 0 some)) in
+          rw e (record { inside = of-sets _ low.here; finds = rw (here, found_from, searched) })
 
-module _ {g : Geometry} {t : Tables} {key s looks : ℕ} (a : Named g t key s looks) where
+module _ {g : Geometry} {t : Tables} {key from s looks : ℕ} (a : Named g t key from s looks) where
   -- where a set is an address, that is answered
   pub set_found : valid g ≡ true → eqb g.kind segmented ≡ false → (o n : ℕ) → o < set_length g s → n ≡ address_of g s o
-      → at n looks 0 ≡ answer_of (first_found g t key)
+      → at n looks 0 ≡ answer_of (found_from g t key from)
   unfolding in_set answer_of
   set_found ok k o n inside is = rw (a.finds, is, alone-address g (facts g ok) s o k inside, k, in_set)
 
   module _ (k : eqb g.kind segmented ≡ true) (o : ℕ) (before : Nowhere o (equal_at g t key s)) where
     -- where the comparison of its entries has passed them all, it is false
-    pub entries_over : set_length g s ≤ o → refused 6 ≡ answer_of (first_found g t key)
+    pub entries_over : set_length g s ≤ o → refused 6 ≡ answer_of (found_from g t key from)
     unfolding in_set seek_entry answer_of
     entries_over past =
         rw (a.finds, k, in_set, seek_entry, lowest-nowhere (set_length g s) (equal_at g t key s) (λ i l. before i (omega arith)))
 
     -- at the first that is the key that address is answered, and the whole line is c
     pub entry_found : valid g ≡ true → length t.store ≡ g.depth → o < set_length g s
-        → (n v c : ℕ) → n ≡ address_of g s o → v ≡ stored_word t n → v ≡ key → c ≡ set_length g s → at n looks c ≡ answer_of (first_found g t key)
+        → (n v c : ℕ) → n ≡ address_of g s o → v ≡ stored_word t n → v ≡ key → c ≡ set_length g s → at n looks c ≡ answer_of (found_from g t key from)
     unfolding in_set seek_entry answer_of
     entry_found ok long within n v c is read equal whole =
         let here : equal_at g t key s o ≡ true = rw (← is, ← read) (eq-eqb v key equal) in

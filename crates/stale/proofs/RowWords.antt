@@ -1,11 +1,8 @@
 -- The words of a row in the second look: where they stand, what the code finds of one, and those that are 0.
-use Prim.Native.Nat.{ℕ, ◌+◌, ◌*◌, ◌^◌, ◌<◌, ◌≤◌}
+use Prim.Native.Nat.{ℕ, ◌+◌, ◌*◌, ◌^◌, ◌<◌}
 use mathlib.Core.Path.{◌≡◌, ap, ap₂, ◌∙◌}
-use mathlib.Core.Logic.{◌⊎◌, inl, inr}
 use mathlib.Core.Bool.{Bool}
 use native.Mathlib.Omega.{arith}
-use native.Mathlib.Nat.{le_of_suc-le-suc, eq-or-lt_of_le}
-use native.Mathlib.Numerals.{add-one}
 use lib.ListN.{length, get_or}
 use Rattle.geometry.specs.Sizes.{row_words}
 use Rattle.geometry.proofs.Facts.{facts}
@@ -16,15 +13,6 @@ use Rattle.calls.specs.Answers.{tables_in}
 use Rattle.stale.specs.Stale.{exceeds, image_word, word_is_stale}
 use Rattle.stale.specs.declared.Row.{Row}
 use Rattle.stale.specs.Rows.{geometry_of, number, cover_of}
-
--- one word more that is 0
-pub zeros-on : (word : ℕ → ℕ) (first j : ℕ) → ((i : ℕ) → first ≤ i → i < j → word i ≡ 0) → word j ≡ 0
-    → (i : ℕ) → first ≤ i → i < j + 1 → word i ≡ 0
-zeros-on word first j before here i l m = go (eq-or-lt_of_le (le_of_suc-le-suc (rw add-one at m)))
-  where
-    go : (i ≡ j) ⊎ (i < j) → word i ≡ 0
-    go (inl is) = rw is here
-    go (inr less) = before i l less
 
 -- no row has a number that is too large for the code
 pub row-few : (r : Row) → number r < 2 ^ 28

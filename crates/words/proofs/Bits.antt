@@ -1,11 +1,11 @@
 -- Laws of single bits, for any width.
 use Prim.Native.Nat.{ℕ, zero, suc, ◌+◌, ◌-◌, ◌*◌, ◌/◌, ◌%◌, ◌^◌, ◌<◌, ◌≤◌, min, suc-le-suc}
-use native.Mathlib.Nat.{add_comm, add-zero, le-add_right, div-div-eq-div-mul, div-eq_of_lt, div-one, lt_of_lt_of_le, le_of_suc-le-suc, min-le_left, mod-lt, mul_comm, pow-suc, zero-div, zero-lt-suc}
+use native.Mathlib.Nat.{add_comm, add-zero, le-add_right, div-div-eq-div-mul, div-eq_of_lt, div-mul-le_self, div-one, lt_of_lt_of_le, le_of_suc-le-suc, min-le_left, mod-lt, mul-one, mul_comm, mul_left_comm, pow-suc, zero-div, zero-lt-suc}
 use native.Mathlib.Omega.{arith}
 use mathlib.Core.Path.{◌≡◌, refl, sym, ap, ap₂, ◌∙◌}
 use mathlib.Core.Bool.{Bool, true, false, cond, not, ◌&&◌, ◌||◌, and-true}
 use mathlib.Core.List.{List}
-use lib.Dec.{eqb, ltb, leb-zero, leb-suc-zero, leb-suc-suc, eqb-zero-suc, eqb-suc-zero, eqb-suc-suc}
+use lib.Dec.{eqb, ltb, leb, leb-zero, leb-suc-zero, leb-suc-suc, eqb-zero-suc, eqb-suc-zero, eqb-suc-suc}
 use lib.Pow.{pow_mono, pow_pos, ones_lt}
 use lib.Bits.{bit_and, bit_or, bit_xor, and_shr, or_shr, xor_shr, and_mod, or_mod, xor_mod}
 use lib.Count.{count_trailing_zeros, under}
@@ -13,7 +13,7 @@ use lib.ListN.{length, get_or, set, length-set}
 use lib.Seq.{get_or-set_same, get_or-set_other}
 use borrow.Author.Tests.{ltb-true, ltb-false, lt-ltb, le-ltb, eqb-true, eqb-false}
 use Rattle.words.specs.Rules.{count, tabulate, First}
-use Rattle.words.specs.Bits.{bit, set_bit, clear_bit, change_bit, row_mask, word, bit_words, total_ones}
+use Rattle.words.specs.Bits.{bit, set_bit, clear_bit, bits_from, change_bit, row_mask, word, bit_words, total_ones}
 use Rattle.words.proofs.Rules.{count_add, count-ext, count_none, length-tabulate, get_or-tabulate, tabulate-ext}
 
 -- a digit is 0 or 1
@@ -130,6 +130,24 @@ unfolding clear_bit
 bit-clear n i j =
     bit-op (λ a b. bit_xor (bit_or a b) b) (λ x y. not y && x) (λ a b k. rw (xor_shr, or_shr)) (λ a b k. rw (xor_mod, or_mod)) refl refl refl refl n (2 ^ i) j
     ∙ rw bit-pow
+
+-- a number without its bits below i has those from i on
+from-suc : (n i : ℕ) → bits_from n (suc i) ≡ 2 * bits_from (n / 2) i
+unfolding bits_from
+from-suc n i = rw (pow-suc, mul_comm (2 ^ i) 2, ← div-div-eq-div-mul) (mul_left_comm _ 2 (2 ^ i))
+
+pub bit-from : (n i j : ℕ) → bit (bits_from n i) j ≡ (leb i j && bit n j)
+bit-from n zero j = unfold bits_from in rw (leb-zero j, div-one, mul-one) refl
+bit-from n (suc i) zero =
+    let even : bits_from n (suc i) % 2 ≡ 0 = omega (arith, from-suc n i) in
+    rw (bit-low, even, leb-suc-zero) refl
+bit-from n (suc i) (suc j) =
+    let half : bits_from n (suc i) / 2 ≡ bits_from (n / 2) i = omega (arith, from-suc n i) in
+    rw (bit-suc, half, leb-suc-suc, bit-suc n j) (bit-from (n / 2) i j)
+
+pub from-le : (n i : ℕ) → bits_from n i ≤ n
+unfolding bits_from
+from-le n i = div-mul-le_self n (2 ^ i)
 
 -- A number is larger than itself with a set bit cleared: by its halves, down to that bit.
 pub clear-lt : (n i : ℕ) → bit n i ≡ true → clear_bit n i < n

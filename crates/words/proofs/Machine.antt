@@ -1,10 +1,10 @@
--- What the operations of the code give: at any width k a shifted one, a set bit, a cleared bit and the count of ones; the
--- three cases of a row's mask; and what a count over words is.
+-- What the operations of the code give: at any width k a shifted one, a set bit, a cleared bit, the bits from one on and the count of
+-- ones; the three cases of a row's mask; and what a count over words is.
 use Prim.Native.Nat.{ℕ, zero, suc, ◌+◌, ◌-◌, ◌*◌, ◌/◌, ◌%◌, ◌^◌, ◌<◌, ◌≤◌, min}
 use mathlib.Core.Path.{◌≡◌, refl, sym, ap, ◌∙◌}
 use mathlib.Core.Bool.{Bool, true, false, not, ◌&&◌, and_comm}
 use mathlib.Core.List.{List, [], ◌∷◌}
-use native.Mathlib.Nat.{one-mul, mod-eq_of_lt, pow-suc}
+use native.Mathlib.Nat.{one-mul, div-mul-le_self, lt_of_le_of_lt, mod-eq_of_lt, pow-suc}
 use native.Mathlib.Omega.{arith}
 use lib.Dec.{eqb, ltb}
 use lib.Pow.{pow-lt}
@@ -15,7 +15,7 @@ use Rattle.std.specs.List.{sum_by}
 use Rattle.std.proofs.lemmas.List.Sums.{sum_by-cons, sum_by-le}
 use borrow.Author.Tests.{ltb-false}
 use Rattle.words.specs.Rules.{count}
-use Rattle.words.specs.Bits.{bit, set_bit, clear_bit, row_mask, total_ones}
+use Rattle.words.specs.Bits.{bit, set_bit, clear_bit, bits_from, row_mask, total_ones}
 use Rattle.words.proofs.Rules.{count-ext, count-front, count_most}
 use Rattle.words.proofs.Bits.{bits-equal, bit-out, bit_not, bit-pow, bit-suc, bit-and, bit-clear, low-of-bit}
 
@@ -34,6 +34,10 @@ clear-is k n b hn h =
     at : (i : ℕ) (l : Bool) → ltb i k ≡ l → bit n i && (l && not (eqb i b)) ≡ not (eqb i b) && bit n i
     at i true e = and_comm (bit n i) (not (eqb i b))
     at i false e = rw (bit-out k n i hn (ltb-false i k e)) (and_comm false (not (eqb i b)))
+
+pub from-is : (k n i : ℕ) → n < 2 ^ k → n / 2 ^ i * 2 ^ i % 2 ^ k ≡ bits_from n i
+unfolding bits_from
+from-is k n i h = mod-eq_of_lt (lt_of_le_of_lt (div-mul-le_self n (2 ^ i)) h)
 
 -- the machine's count of ones is the number of positions whose bit is 1
 pub ones_is : (k n : ℕ) → n < 2 ^ k → ones n ≡ count k (bit n)

@@ -1,21 +1,20 @@
 -- Laws of rules over numbers, and of the lists made by them.
 use Prim.Native.Nat.{ℕ, zero, suc, ◌+◌, ◌*◌, ◌/◌, ◌%◌, ◌<◌, ◌≤◌}
 use mathlib.Core.Logic.{◌⊎◌, inl, inr}
-use mathlib.Core.Path.{◌≡◌, refl, sym, ap, ◌∙◌}
+use mathlib.Core.Path.{◌≡◌, refl, sym, ap, ap₂, ◌∙◌}
 use mathlib.Core.Bool.{Bool, true, false, cond, not, ◌&&◌, ◌||◌, false≢true, or-true, or-false, or_assoc, and-false, and-eq-true_iff}
-use mathlib.Core.List.{List, [], ◌∷◌}
+use mathlib.Core.List.{List, [], ◌∷◌, append-nil}
 use mathlib.Core.Option.{Option, none, some}
 use native.Mathlib.Numerals.{one-add}
 use native.Mathlib.Nat.{zero-add, add-zero, add-suc, add_assoc, le_of_suc-le-suc, eq-or-lt_of_le, mul_comm, div-add-mod}
 use native.Mathlib.Decide.{dec_lt}
 use native.Mathlib.Omega.{arith}
-use lib.Dec.{eqb, leb, ltb}
+use lib.Dec.{eqb, leb, leb-zero}
 use lib.Arith.{digits_div, digits_mod}
 use lib.ListN.{length, get_or}
 use lib.Seq.{ext_get_or}
-use borrow.Author.Count.{below_more}
-use borrow.Author.Tests.{eqb-true, eq-eqb, leb-true, leb-false, ltb-true, ltb-false}
-use Rattle.words.specs.Rules.{any, count, lowest, member, keep, tabulate, First, Nowhere}
+use borrow.Author.Tests.{eqb-true, eq-eqb, leb-true, leb-false, le-leb, lt-leb}
+use Rattle.words.specs.Rules.{any, count, lowest, onward, above, those, member, keep, tabulate, First, Nowhere}
 
 -- two tests that follow from each other are one
 pub both_ways : (a b : Bool) → (a ≡ true → b ≡ true) → (b ≡ true → a ≡ true) → a ≡ b
@@ -34,15 +33,7 @@ pub refuted : (b : Bool) → (b ≡ true → ⊥) → b ≡ false
 refuted true h = absurd (h refl)
 refuted false h = refl
 
--- what a loop finds by testing i against l, which is n
-module _ {i l n : ℕ} {r : Bool} (found : r ≡ ltb i l) (same : l ≡ n) where
-  pub tested-below : r ≡ true → i < n
-  tested-below e = rw (← same) (ltb-true i l (sym found ∙ e))
-
-  pub tested-past : r ≡ false → n ≤ i
-  tested-past e = rw (← same) (ltb-false i l (sym found ∙ e))
-
--- what it finds by testing l against i, where l is n
+-- what a loop finds by testing l against i, where l is n
 module _ {i l n : ℕ} {r : Bool} (found : r ≡ leb l i) (same : l ≡ n) where
   pub outside-past : r ≡ true → n ≤ i
   outside-past e = rw (← same) (leb-true l i (sym found ∙ e))
@@ -101,17 +92,6 @@ unfolding any
 any-ext zero r s h = refl
 any-ext (suc n) r s h = rw (any-ext n r s (λ i l. h i (omega arith)), h n (omega arith))
 
--- a loop that asks one place after another, and has come to i: it has found one, goes on, or has asked all
-module _ (n : ℕ) (r : ℕ → Bool) (i : ℕ) where
-  pub any_here : i < n → {x : Bool} → x ≡ r i → x ≡ true → true ≡ any n r
-  any_here l found e = sym (any-true n r i l (sym found ∙ e))
-
-  pub any-on : Nowhere i r → {x : Bool} → x ≡ r i → x ≡ false → {next : ℕ} → next ≡ i + 1 → Nowhere next r
-  any-on before found e is = rw is (below_more _ i before (sym found ∙ e))
-
-  pub any-over : n ≤ i → Nowhere i r → false ≡ any n r
-  any-over past before = sym (any_false n r (λ j l. before j (omega arith)))
-
 -- one place apart from the others
 pub any-split : (n : ℕ) (r : ℕ → Bool) (o : ℕ) → o < n → any n r ≡ (r o || any n (λ i. not (eqb i o) && r i))
 any-split n r o l = go (r o) refl
@@ -168,12 +148,6 @@ unfolding tabulate
 get_or-tabulate zero f i d l = absurd (omega arith)
 get_or-tabulate (suc n) f zero d l = refl
 get_or-tabulate (suc n) f (suc i) d l = get_or-tabulate n (λ k. f (suc k)) i d (omega arith)
-
--- a word within a list, whatever would stand past its end: the code reads 0 there, the store's definition the empty word
-pub any-default : (l : List ℕ) (i d e : ℕ) → i < length l → get_or l i d ≡ get_or l i e
-any-default [] i d e h = absurd (omega arith)
-any-default (x ∷ l) zero d e h = refl
-any-default (x ∷ l) (suc i) d e h = any-default l i d e (omega arith)
 
 -- a list is tabulated by its elements
 pub list-tabulate : (l : List ℕ) (n : ℕ) (f : ℕ → ℕ) → length l ≡ n → ((i : ℕ) → i < n → get_or l i 0 ≡ f i) → l ≡ tabulate n f
@@ -245,3 +219,58 @@ lowest-nowhere n r nowhere = go (lowest-is n r)
     go : LowestIs n r (lowest n r) → lowest n r ≡ none
     go (at_first j e first) = cc (nowhere j first.within, first.here)
     go (at_none e _) = e
+
+pub lowest-ext : (n : ℕ) (r s : ℕ → Bool) → ((i : ℕ) → i < n → r i ≡ s i) → lowest n r ≡ lowest n s
+unfolding lowest
+lowest-ext zero r s h = refl
+lowest-ext (suc n) r s h =
+    ap₂ (λ (x : Option ℕ) (b : Bool). elim x [ some i ↦ some i | none ↦ cond b (some n) none ]) (lowest-ext n r s (λ i l. h i (omega arith))) (h n (omega arith))
+
+-- the first place of a rule is that of the same rule
+pub first-same : {n i : ℕ} (r s : ℕ → Bool) → ((j : ℕ) → r j ≡ s j) → First n r i → First n s i
+first-same {i = i} r s h f = record { within = f.within; here = sym (h i) ∙ f.here; none_before = λ j l. sym (h j) ∙ f.none_before j l }
+
+-- ---- a rule from a place on
+
+pub onward-none : (r : ℕ → Bool) (i j : ℕ) → j < i → onward i r j ≡ false
+onward-none r i j l = rw (lt-leb i j l)
+
+pub onward-same : (r : ℕ → Bool) (i j : ℕ) → i ≤ j → onward i r j ≡ r j
+onward-same r i j l = rw (le-leb i j l)
+
+pub onward-here : (r : ℕ → Bool) (i j : ℕ) → onward i r j ≡ true → (i ≤ j) × (r j ≡ true)
+onward-here r i j h = let p = (and-eq-true_iff _ _).0 h in (leb-true i j p.0, p.1)
+
+-- from place 0 on is everywhere
+pub onward-all : (r : ℕ → Bool) (j : ℕ) → onward 0 r j ≡ r j
+onward-all r j = rw (leb-zero j)
+
+-- ---- the places that have a rule
+
+pub those-none : (n : ℕ) (r : ℕ → Bool) → Nowhere n r → those n r ≡ []
+unfolding those
+those-none zero r h = refl
+those-none (suc n) r h = rw (those-none n r (λ i l. h i (omega arith)), h n (omega arith))
+
+pub those-ext : (n : ℕ) (r s : ℕ → Bool) → ((i : ℕ) → i < n → r i ≡ s i) → those n r ≡ those n s
+unfolding those
+those-ext zero r s h = refl
+those-ext (suc n) r s h = rw (those-ext n r s (λ i l. h i (omega arith)), h n (omega arith))
+
+-- The first is followed by those above it.
+pub those-first : (n : ℕ) (r : ℕ → Bool) (i : ℕ) → First n r i → those n r ≡ i ∷ those n (above i r)
+unfolding those
+those-first zero r i f = absurd (omega (arith, f.within))
+those-first (suc n) r i f = go (eq-or-lt_of_le (omega (arith, f.within))) (λ l. those-first n r i (record { within = l; here = f.here; none_before = f.none_before }))
+  where
+    go : (i ≡ n) ⊎ (i < n) → (i < n → those n r ≡ i ∷ those n (above i r)) → those (suc n) r ≡ i ∷ those (suc n) (above i r)
+    go (inl e) rest =
+        let last : r n ≡ true = rw e at f.here in
+        rw (those-none n r (λ j l. f.none_before j (omega arith)), last, e, those-none n (above n r) (λ j l. onward-none r (suc n) j (omega arith)), lt-leb (suc n) n (omega arith)) refl
+    go (inr l) rest = rw (rest l, onward-same r (suc i) n l) refl
+
+-- None stands past the last.
+pub those-past : (n k : ℕ) (r : ℕ → Bool) → ((i : ℕ) → n ≤ i → r i ≡ false) → those (n + k) r ≡ those n r
+unfolding those
+those-past n zero r h = rw (add-zero n) refl
+those-past n (suc k) r h = rw (add-suc, those, h (n + k) (omega arith), append-nil) (those-past n k r h)

@@ -1,18 +1,19 @@
--- Laws of a search, and of the first bit that is 1 in a row of any number of words.
+-- Laws of a search, and of the first bit that is 1 in a row of any number of words, from any place on.
 use Prim.Native.Nat.{ℕ, zero, suc, ◌+◌, ◌-◌, ◌*◌, ◌/◌, ◌%◌, ◌^◌, ◌<◌, ◌≤◌}
 use mathlib.Core.Logic.{◌⊎◌, inl, inr}
-use mathlib.Core.Path.{◌≡◌, refl}
-use mathlib.Core.Bool.{Bool, true, false, not}
+use mathlib.Core.Path.{◌≡◌, refl, sym, ap, ◌∙◌}
+use mathlib.Core.Bool.{Bool, true, false, cond, not, ◌&&◌}
 use native.Mathlib.Nat.{eq-or-lt_of_le}
 use native.Mathlib.Numerals.{add-one}
 use native.Mathlib.Omega.{arith}
-use lib.Dec.{eqb}
+use lib.Dec.{eqb, ltb, leb}
 use lib.Count.{count_trailing_zeros}
-use borrow.Author.Tests.{eqb-true, eqb-false, not-true, not-false}
-use Rattle.words.specs.Rules.{First, Nowhere}
-use Rattle.words.specs.Bits.{bit}
-use Rattle.words.specs.Seek.{Sought, found, missed, seek}
-use Rattle.words.proofs.Bits.{bit-zero, trailing-lowest}
+use borrow.Author.Tests.{ltb-true, ltb-false, le-ltb, leb-true, leb-false, le-leb, lt-leb, eqb-true, eqb-false, not-true, not-false}
+use Rattle.words.specs.Rules.{onward, First, Nowhere}
+use Rattle.words.specs.Bits.{bit, bits_from}
+use Rattle.words.specs.Seek.{Sought, found, missed, seek, row_from}
+use Rattle.words.proofs.Rules.{first-same, onward-none, onward-same, onward-here}
+use Rattle.words.proofs.Bits.{bit-zero, bit-from, from-le, trailing-lowest}
 
 -- What a search of `left` places from `place` on, after `looks` looks, tells by its result.
 abbrev Outcome : (ℕ → Bool) → (left place looks : ℕ) → Sought → Type 0
@@ -40,16 +41,25 @@ seek-outcome test (suc left) place looks = go (test place) refl (seek-outcome te
     go true e o = (omega arith, omega arith, e, λ j a b. absurd (omega arith), omega arith)
     go false e o = widen (seek test left (suc place) (suc looks)) e o
 
--- A search over n places from 0 finds the first, and has looked at it and all before it.
-pub seek_found : (n : ℕ) (test : ℕ → Bool) (i looks : ℕ) → seek test n 0 0 ≡ found i looks → First n test i × (looks ≡ i + 1)
-seek_found n test i looks e =
-    let o : Outcome test n 0 0 (found i looks) = rw e at (seek-outcome test n 0 0) in
-    (record { within = omega arith; here = o.2; none_before = λ j l. o.3 j (omega arith) l }, omega arith)
+-- A search of the places from one on, as far as n, finds the first, and has looked at it and all between.
+pub seek_found : (n place : ℕ) (test : ℕ → Bool) (i looks : ℕ) → seek test (n - place) place 0 ≡ found i looks
+    → First n (onward place test) i × (looks + place ≡ i + 1)
+seek_found n place test i looks e =
+    let o : Outcome test (n - place) place 0 (found i looks) = rw e at (seek-outcome test (n - place) place 0) in
+    (record { within = omega arith; here = rw (le-leb place i o.0) o.2; none_before = λ j l. before j (leb place j) refl (λ h. o.3 j h l) }, omega arith)
+  where
+    before : (j : ℕ) (b : Bool) → leb place j ≡ b → (place ≤ j → test j ≡ false) → (b && test j) ≡ false
+    before j true h f = f (leb-true place j h)
+    before j false h f = refl
 
-pub seek-missed : (n : ℕ) (test : ℕ → Bool) (looks : ℕ) → seek test n 0 0 ≡ missed looks → Nowhere n test × (looks ≡ n)
-seek-missed n test looks e =
-    let o : Outcome test n 0 0 (missed looks) = rw e at (seek-outcome test n 0 0) in
-    (λ j l. o.0 j (omega arith) (omega arith), omega arith)
+pub seek-missed : (n place : ℕ) (test : ℕ → Bool) (looks : ℕ) → seek test (n - place) place 0 ≡ missed looks → Nowhere n (onward place test) × (looks ≡ n - place)
+seek-missed n place test looks e =
+    let o : Outcome test (n - place) place 0 (missed looks) = rw e at (seek-outcome test (n - place) place 0) in
+    (λ j l. at j l (leb place j) refl o.0, omega arith)
+  where
+    at : (j : ℕ) → j < n → (b : Bool) → leb place j ≡ b → ((j : ℕ) → place ≤ j → j < place + (n - place) → test j ≡ false) → (b && test j) ≡ false
+    at j l true h f = let past = leb-true place j h in f j past (omega arith)
+    at j l false h f = refl
 
 -- A search by a loop that counts its looks: a turn, and both ends.
 module _ (test : ℕ → Bool) (n i looks : ℕ) where
@@ -83,9 +93,9 @@ word_first f w j h = trailing-lowest 64 (f j) (w j) (omega (arith, eqb-false (f 
 pub row_word : (f : ℕ → ℕ) → ((j : ℕ) → f j < 2 ^ 64) → (j : ℕ) → nonzero f j ≡ true → (64 * j + count_trailing_zeros 64 (f j)) / 64 ≡ j
 row_word f w j h = omega (arith, (word_first f w j h).within)
 
--- In a row of n words the lowest set bit of the first word that is not zero is the first set bit of the row.
-pub row_first : (n : ℕ) (f : ℕ → ℕ) → ((j : ℕ) → f j < 2 ^ 64) → (j : ℕ) → First n (nonzero f) j → First (64 * n) (row_bit f) (64 * j + count_trailing_zeros 64 (f j))
-row_first n f w j h = lowest (count_trailing_zeros 64 (f j)) (word_first f w j h.here)
+-- in a row of n words the lowest set bit of the first word that is not zero is the first set bit of the row
+whole-first : (n : ℕ) (f : ℕ → ℕ) → ((j : ℕ) → f j < 2 ^ 64) → (j : ℕ) → First n (nonzero f) j → First (64 * n) (row_bit f) (64 * j + count_trailing_zeros 64 (f j))
+whole-first n f w j h = lowest (count_trailing_zeros 64 (f j)) (word_first f w j h.here)
   where
     before : (i z : ℕ) → First 64 (bit (f j)) z → i < 64 * j + z → (i / 64 ≡ j) ⊎ (i / 64 < j) → row_bit f i ≡ false
     before i z low l (inl e) = rw e (low.none_before (i % 64) (omega arith))
@@ -101,5 +111,62 @@ row_first n f w j h = lowest (count_trailing_zeros 64 (f j)) (word_first f w j h
           none_before = λ i l. before i z low l (eq-or-lt_of_le (omega arith));
         }
 
-pub row-nowhere : (n : ℕ) (f : ℕ → ℕ) → Nowhere n (nonzero f) → Nowhere (64 * n) (row_bit f)
-row-nowhere n f h i l = row_zero f i (h (i / 64) (omega arith))
+-- ---- the same from a place on
+
+of_both : (P : ℕ → Type 0) (b : Bool) (x y : ℕ) → P x → P y → P (cond b x y)
+of_both P true x y p q = p
+of_both P false x y p q = q
+
+module _ (f : ℕ → ℕ) (w : (j : ℕ) → f j < 2 ^ 64) (s : ℕ) where
+  pub row_from-lt : (j : ℕ) → row_from f s j < 2 ^ 64
+  unfolding row_from
+  row_from-lt j = of_both (λ n. n < 2 ^ 64) (eqb j (s / 64)) _ _ (omega (arith, from-le (f j) (s % 64), w j)) (omega (arith, from-le (f j) (s % 64), w j))
+
+  -- the row without its words before that of s
+  rest : ℕ → ℕ
+  rest j = cond (ltb j (s / 64)) 0 (row_from f s j)
+
+  rest-lt : (j : ℕ) → rest j < 2 ^ 64
+  unfolding rest
+  rest-lt j = of_both (λ n. n < 2 ^ 64) (ltb j (s / 64)) 0 (row_from f s j) (omega arith) (row_from-lt j)
+
+  rest-on : (j : ℕ) → s / 64 ≤ j → rest j ≡ row_from f s j
+  unfolding rest
+  rest-on j l = rw (le-ltb j (s / 64) l)
+
+  -- it has the bits of the row from s on
+  rest-bit : (i : ℕ) → row_bit rest i ≡ onward s (row_bit f) i
+  unfolding rest row_from
+  rest-bit i = go (ltb (i / 64) (s / 64)) refl (eqb (i / 64) (s / 64)) refl
+    where
+      go : (b : Bool) → ltb (i / 64) (s / 64) ≡ b → (c : Bool) → eqb (i / 64) (s / 64) ≡ c
+          → bit (cond b 0 (cond c (bits_from (f (i / 64)) (s % 64)) (f (i / 64)))) (i % 64) ≡ onward s (row_bit f) i
+      go true h c e = let before = ltb-true (i / 64) (s / 64) h in rw (bit-zero, onward-none (row_bit f) s i (omega arith))
+      go false h true e = let same = eqb-true (i / 64) (s / 64) e in rw bit-from (ap (λ b. b && row_bit f i) (tested same (leb s i) refl))
+        where
+          tested : i / 64 ≡ s / 64 → (b : Bool) → leb s i ≡ b → leb (s % 64) (i % 64) ≡ b
+          tested same true l = let past = leb-true s i l in le-leb (s % 64) (i % 64) (omega arith)
+          tested same false l = let early = leb-false s i l in lt-leb (s % 64) (i % 64) (omega arith)
+      go false h false e =
+          let past = ltb-false (i / 64) (s / 64) h in
+          let other = eqb-false (i / 64) (s / 64) e in
+          rw (onward-same (row_bit f) s i (omega (arith, other)))
+
+  rest-nonzero : (j : ℕ) → onward (s / 64) (nonzero (row_from f s)) j ≡ nonzero rest j
+  unfolding rest
+  rest-nonzero j = go (ltb j (s / 64)) refl
+    where
+      go : (b : Bool) → ltb j (s / 64) ≡ b → onward (s / 64) (nonzero (row_from f s)) j ≡ not (eqb (cond b 0 (row_from f s j)) 0)
+      go true h = onward-none (nonzero (row_from f s)) (s / 64) j (ltb-true j (s / 64) h)
+      go false h = onward-same (nonzero (row_from f s)) (s / 64) j (ltb-false j (s / 64) h)
+
+  -- the lowest set bit of the first word from there on that is not zero is the first set bit of the row from s on
+  pub row_first : (n j : ℕ) → First n (onward (s / 64) (nonzero (row_from f s))) j
+      → First (64 * n) (onward s (row_bit f)) (64 * j + count_trailing_zeros 64 (row_from f s j))
+  row_first n j first =
+      let on = (onward-here (nonzero (row_from f s)) (s / 64) j first.here).0 in
+      rw (rest-on j on) at (first-same (row_bit rest) (onward s (row_bit f)) rest-bit
+      (whole-first n rest rest-lt j (first-same _ (nonzero rest) rest-nonzero first)))
+
+  pub row-nowhere : (n : ℕ) → Nowhere n (onward (s / 64) (nonzero (row_from f s))) → Nowhere (64 * n) (onward s (row_bit f))
+  row-nowhere n h i l = sym (rest-bit i) ∙ row_zero rest i (sym (rest-nonzero (i / 64)) ∙ h (i / 64) (omega arith))

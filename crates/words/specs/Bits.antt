@@ -15,6 +15,10 @@ set_bit n i = bit_or n (2 ^ i)
 unfoldable pub clear_bit : ℕ → ℕ → ℕ
 clear_bit n i = bit_xor (bit_or n (2 ^ i)) (2 ^ i)
 
+-- n without its bits below bit i.
+unfoldable pub bits_from : ℕ → ℕ → ℕ
+bits_from n i = n / 2 ^ i * 2 ^ i
+
 -- n with bit i set where v holds, and else cleared.
 abbrev pub put_bit : (v : Bool) → ℕ → ℕ → ℕ
 put_bit true = set_bit

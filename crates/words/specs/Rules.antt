@@ -1,5 +1,5 @@
 -- Rules over numbers, ℕ → Bool: whether one holds below a bound, how often and where first, and a list made by a rule.
-use Rattle.std.specs.Prelude.{ℕ, zero, suc, ◌+◌, ◌<◌, ◌≡◌, Bool, true, false, cond, ◌||◌, List, [], ◌∷◌, eqb}
+use Rattle.std.specs.Prelude.{ℕ, zero, suc, ◌+◌, ◌<◌, ◌≡◌, Bool, true, false, cond, ◌&&◌, ◌||◌, List, [], ◌∷◌, ◌++◌, eqb, leb}
 use Rattle.std.proofs.Math.Option.{Option, none, some}
 
 -- Whether some i below n has r i.
@@ -16,6 +16,18 @@ count (suc n) r = count n r + cond (r n) 1 0
 unfoldable pub lowest : ℕ → (ℕ → Bool) → Option ℕ
 lowest zero r = none
 lowest (suc n) r = elim (lowest n r) [ some i ↦ some i | none ↦ cond (r n) (some n) none ]
+
+-- The rule r from place i on, and above place i.
+abbrev pub onward : (i : ℕ) → (ℕ → Bool) → ℕ → Bool
+onward i r j = leb i j && r j
+
+abbrev pub above : (i : ℕ) → (ℕ → Bool) → ℕ → Bool
+above i = onward (suc i)
+
+-- Those below n that have r, ascending.
+unfoldable pub those : ℕ → (ℕ → Bool) → List ℕ
+those zero r = []
+those (suc n) r = those n r ++ cond (r n) (n ∷ []) []
 
 -- Whether x stands in a list.
 unfoldable pub member : ℕ → List ℕ → Bool

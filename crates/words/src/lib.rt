@@ -3,7 +3,7 @@
 
 ghost use Rattle.std.specs.Prelude.{◌<◌, ◌≤◌, ◌≡◌, length};
 ghost use Rattle.words.specs.Rules.{count};
-ghost use Rattle.words.specs.Bits.{bit, put_bit, clear_bit, change_bit, row_mask, total_ones};
+ghost use Rattle.words.specs.Bits.{bit, put_bit, clear_bit, bits_from, change_bit, row_mask, total_ones};
 
 // Bit `bit` of word `at` becomes `value`. The address or the set whose bit it is shows what is asked, with what it was asked itself. A
 // bit's number is no type of its own here and below: whoever has one would make it in one line to be taken apart in the next.
@@ -24,6 +24,14 @@ pub fn without_bit(word: u64, bit: u32) -> u64
     ensures { result ≡ clear_bit word bit }
 {
     word & !(1u64 << bit)
+}
+
+// A word without its bits below bit `at`. A set shows what is asked, of its bit in a word of a row.
+pub fn bits_from(word: u64, at: u32) -> u64
+    requires { at < 64 }
+    ensures { result ≡ bits_from word at }
+{
+    word >> at << at
 }
 
 // Whether bit `at` of a word is 1. A set shows what is asked, of its bit in a word of a row.

@@ -7,9 +7,11 @@
 //! length and content may be passed. A call that is refused changes nothing.
 
 mod memory;
+mod places;
 pub mod raw;
 
 pub use memory::{AllMatch, Memory};
+pub use places::Places;
 
 use std::error::Error;
 use std::fmt;
@@ -146,6 +148,23 @@ impl Geometry {
         accepted(raw::first_match(self, store, indicators, key)).map(first_match)
     }
 
+    /// The lowest address above the given one that holds the key. What the given one holds does not
+    /// matter.
+    pub fn next_match(
+        self,
+        store: &[u32],
+        indicators: &[u64],
+        address: u32,
+        key: u32,
+    ) -> Result<Option<u32>, Refusal> {
+        accepted(raw::next_match(self, store, indicators, address, key)).map(found)
+    }
+
+    /// The addresses that hold the key, ascending: a first-match, then a next-match from each.
+    pub fn places<'a>(self, store: &'a [u32], indicators: &'a [u64], key: u32) -> Places<'a> {
+        Places::new(self, store, indicators, key)
+    }
+
     /// Sets in the match word the bit of every address that holds the key, and gives their number.
     pub fn all_match(
         self,
@@ -180,10 +199,15 @@ fn entry(value: u64) -> Option<u32> {
     (stored != EMPTY).then_some(stored)
 }
 
-fn first_match(value: u64) -> FirstMatch {
+/// The address of a match, `None` for none.
+fn found(value: u64) -> Option<u32> {
     let address = (value & 0xffff) as u32;
+    (address != 0xffff).then_some(address)
+}
+
+fn first_match(value: u64) -> FirstMatch {
     FirstMatch {
-        address: (address != 0xffff).then_some(address),
+        address: found(value),
         words_read: (value >> 16 & 0xffff) as u32,
         entries_compared: (value >> 32) as u32,
     }

@@ -1,6 +1,6 @@
 //! A memory that owns its tables.
 
-use crate::{FirstMatch, Geometry, Refusal, EMPTY};
+use crate::{FirstMatch, Geometry, Places, Refusal, EMPTY};
 
 /// A geometry with tables of its own, cleared by `new` or accepted by `resumed`. Nothing but the
 /// library's calls writes them after that. So of the refusals these methods give
@@ -115,6 +115,41 @@ impl Memory {
     pub fn first_match(&self, key: u32) -> Result<FirstMatch, Refusal> {
         self.geometry
             .first_match(&self.store, &self.indicators, key)
+    }
+
+    /// The lowest address above the given one that holds the key. What the given one holds does not
+    /// matter.
+    pub fn next_match(&self, address: u32, key: u32) -> Result<Option<u32>, Refusal> {
+        self.geometry
+            .next_match(&self.store, &self.indicators, address, key)
+    }
+
+    /// The addresses that hold the key, ascending. Each is looked for when it is asked for, and no
+    /// match word is made. The only refusal is [`Refusal::Pattern`], as the only item.
+    ///
+    /// ```
+    /// use cam::{Geometry, Memory, Refusal, SEGMENTED};
+    ///
+    /// let mut memory = Memory::new(Geometry {
+    ///     kind: SEGMENTED,
+    ///     depth: 8,
+    ///     pattern_width: 2,
+    ///     set_width: 4,
+    /// })?;
+    /// for address in [6, 1, 3] {
+    ///     memory.write(address, 2)?;
+    /// }
+    /// for address in memory.places(2) {
+    ///     assert_eq!(memory.read(address?)?, Some(2));
+    /// }
+    /// let addresses: Vec<u32> = memory.places(2).collect::<Result<_, _>>()?;
+    /// assert_eq!(addresses, [1, 3, 6]);
+    /// assert_eq!(memory.places(0).next(), None);
+    /// assert!(memory.places(4).eq([Err(Refusal::Pattern)]));
+    /// # Ok::<(), Refusal>(())
+    /// ```
+    pub fn places(&self, key: u32) -> Places<'_> {
+        self.geometry.places(&self.store, &self.indicators, key)
     }
 
     /// Every address that holds the key. The match word is made anew each time; to use one again

@@ -3,8 +3,8 @@
 //!
 //! A code below 256 is the number of a refusal. Any other is 256 plus a value: a number of words; 0
 //! for a resume and a clear; for a write, an erase or a read the entry as the store has it; for a
-//! first-match the address (65,535 for none) + 65,536 × words_read + 2^32 × entries_compared; for
-//! an all-match the number of hits.
+//! first-match the address (65,535 for none) + 65,536 × words_read + 2^32 × entries_compared; for a
+//! next-match the address (65,535 for none); for an all-match the number of hits.
 //!
 //! Why these are safe: the library asks nothing of its caller but that each pointer and length are
 //! a Rust slice's. It is proved to stay inside the slices for every geometry, every length and
@@ -85,6 +85,18 @@ mod exported {
             store_len: usize,
             indicators: *const u64,
             indicators_len: usize,
+            pattern: u32,
+        ) -> u64;
+        pub fn cam_next_match(
+            kind: u32,
+            depth: u32,
+            pattern_width: u32,
+            set_width: u32,
+            store: *const u32,
+            store_len: usize,
+            indicators: *const u64,
+            indicators_len: usize,
+            address: u32,
             pattern: u32,
         ) -> u64;
         pub fn cam_all_match(
@@ -193,6 +205,19 @@ pub fn first_match(g: Geometry, store: &[u32], indicators: &[u64], key: u32) -> 
         store.len(),
         indicators.as_ptr(),
         indicators.len(),
+        key
+    )
+}
+
+pub fn next_match(g: Geometry, store: &[u32], indicators: &[u64], address: u32, key: u32) -> u64 {
+    call!(
+        cam_next_match,
+        g,
+        store.as_ptr(),
+        store.len(),
+        indicators.as_ptr(),
+        indicators.len(),
+        address,
         key
     )
 }

@@ -28,8 +28,17 @@ pub trait AnyCall: Clone + Display {
     fn writes_tables(&self) -> bool;
     /// What a code says as the answer to this call.
     fn describe(&self, code: u64) -> String;
-    /// The call as a command in a text for `tools/camjob`, if a job can make it.
-    fn job_line(&self) -> Option<String>;
+    fn in_job(&self) -> InJob;
+}
+
+/// What a job has in the place of a call.
+pub enum InJob {
+    /// A command, as a line of a text for `tools/camjob`.
+    Command(String),
+    /// Nothing, for this reason. The call writes no table, so that the job can go on without it.
+    Nothing(&'static str),
+    /// There is no job for a history with such a call.
+    NoJob,
 }
 
 /// The right answer to a call.
@@ -61,6 +70,15 @@ pub trait Family: Clone + 'static {
     fn raw(g: &Geometry, tables: &mut Self::Tables, call: &mut Self::Call) -> u64;
     /// The same by the layer that gives results.
     fn typed(g: &Geometry, tables: &mut Self::Tables, call: &mut Self::Call) -> Self::Answer;
+
+    /// After a call that found all addresses of a key: a walk through them (rule 10.8 of
+    /// docs/MEMORY.md) finds the same.
+    fn walk(
+        g: &Geometry,
+        tables: &Self::Tables,
+        call: &Self::Call,
+        answer: &Self::Answer,
+    ) -> Result<(), String>;
 
     /// A valid geometry.
     fn random_geometry(random: &mut Random) -> Geometry;

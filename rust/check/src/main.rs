@@ -1,7 +1,7 @@
 //! The checking program. It holds the library's calls and the program `camrun` to a second writing
 //! of docs/MEMORY.md, whose rules are cited by number. `family` says what a family of calls is,
-//! `binary` is the family of the six calls, `resume` has the resume beside them, `jobs` has the job
-//! files and what is printed for them. It runs the cases of docs/MEMORY.md, examples from
+//! `binary` is the family of the seven calls, `resume` has the resume beside them, `jobs` has the
+//! job files and what is printed for them. It runs the cases of docs/MEMORY.md, examples from
 //! elsewhere, random histories from an accepted clear, random single calls on damaged tables,
 //! random resumes, random histories that resumes begin and cut, and random jobs.
 

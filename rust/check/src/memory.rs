@@ -43,6 +43,11 @@ impl<F: Family> Memory<F> {
         }
     }
 
+    /// Holds a walk to what the call found, if that was every address of a key.
+    pub fn walk(&self, call: &F::Call, right: &F::Answer) -> Result<(), String> {
+        F::walk(&self.geometry, &self.tables, call, right).map_err(|what| format!("{call}: {what}"))
+    }
+
     /// Makes the call and holds it to what is asked of any call: no guard word is written and,
     /// where the tables are only read, no word of theirs.
     fn make(&mut self, call: &F::Call) -> Result<Made<F::Call>, String> {

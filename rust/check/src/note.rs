@@ -12,6 +12,7 @@ pub struct Note {
     index: AtomicU64,
     calls: AtomicU64,
     inside: AtomicBool,
+    walking: AtomicBool,
     ticks: AtomicU64,
     passed: AtomicU64,
     failed: AtomicU64,
@@ -30,6 +31,8 @@ pub struct Place {
     pub calls: u64,
     /// Whether the last of them had not come back.
     pub inside: bool,
+    /// Whether it had, and what did not come back is a step of the walk after it.
+    pub walking: bool,
 }
 
 static SHARED: AtomicPtr<Note> = AtomicPtr::new(std::ptr::null_mut());
@@ -63,7 +66,17 @@ impl Note {
 
     pub fn enter_call(&self) {
         self.calls.store(self.calls.load(Relaxed) + 1, Relaxed);
+        self.enter(false);
+    }
+
+    /// A step of a walk counts as no call of its own.
+    pub fn enter_walk(&self) {
+        self.enter(true);
+    }
+
+    fn enter(&self, walking: bool) {
         self.ticks.store(self.ticks.load(Relaxed) + 1, Relaxed);
+        self.walking.store(walking, Relaxed);
         self.inside.store(true, Relaxed);
     }
 
@@ -77,6 +90,7 @@ impl Note {
             index: self.index.load(Relaxed),
             calls: self.calls.load(Relaxed),
             inside: self.inside.load(Relaxed),
+            walking: self.walking.load(Relaxed),
         }
     }
 

@@ -41,7 +41,10 @@ impl<F: Family> Script<F> {
             note().begin_calls();
             for line in &self.lines {
                 match line {
-                    Line::Call(call, right) => memory.call(call, right)?,
+                    Line::Call(call, right) => {
+                        memory.call(call, right)?;
+                        memory.walk(call, right)?;
+                    }
                     Line::Look(look) => look(&mut memory)?,
                 }
             }

@@ -2,8 +2,8 @@
 //! wrapper's memory that has tables of its own, new or taken over, against the calls that are lent
 //! theirs.
 
-use crate::binary::call::Call as SixCalls;
-use crate::binary::library::wrapped;
+use crate::binary::call::Call as SevenCalls;
+use crate::binary::library::{is_no_refusal, walk, wrapped};
 use crate::binary::Tables;
 use crate::family::{AnyAnswer, AnyCall, Family};
 use crate::generate::{random_history, random_single_call};
@@ -13,7 +13,7 @@ use crate::options::Options;
 use crate::parts::{Counts, SHOWN_FAILURES};
 use crate::random::Random;
 use crate::resume::{library, Call, Resume};
-use crate::tables::MATCH_WORD;
+use crate::tables::{marked, MATCH_WORD};
 use crate::trial::Trial;
 use crate::watch::Death;
 use cam::{raw, Refusal};
@@ -180,7 +180,7 @@ fn judge(trial: &Trial<Resume>) -> Result<(), String> {
             let (given, right) = (call.describe(owned), call.describe(lent));
             return Err(format!("{call} gave: {given}; lent tables give: {right}"));
         }
-        same_matches(&memory, &call).map_err(|what| format!("{call}: {what}"))?;
+        same_matches(g, &memory, &tables, &call).map_err(|what| format!("{call}: {what}"))?;
         same_tables(&memory, &tables).map_err(|what| format!("after {call}: {what}"))?;
     }
     Ok(())
@@ -198,8 +198,8 @@ fn begun(trial: &Trial<Resume>, tables: &mut Tables) -> Result<Option<cam::Memor
     let memory = match first {
         Call::Resume => cam::Memory::resumed(g, store.to_vec(), indicators.to_vec()),
         // A new memory clears other tables, which the core may take otherwise.
-        Call::Six(_) if lent < 256 => return Ok(None),
-        Call::Six(_) => cam::Memory::new(g),
+        Call::Seven(_) if lent < 256 => return Ok(None),
+        Call::Seven(_) => cam::Memory::new(g),
     };
     let given = memory.as_ref().map_or_else(|why| why.number(), |_| 256);
     match u64::from(given) == lent {
@@ -211,15 +211,10 @@ fn begun(trial: &Trial<Resume>, tables: &mut Tables) -> Result<Option<cam::Memor
     }
 }
 
-/// The wrapper panics at such a number.
-fn is_no_refusal(code: u64) -> bool {
-    matches!(code, 0 | 7..=9 | 11..=255)
-}
-
 /// A memory lends a match word of the right length.
 fn with_own_match_word(g: &Geometry, call: &Call) -> Call {
     match *call {
-        Call::Six(SixCalls::AllMatch { key, .. }) => Call::Six(SixCalls::AllMatch {
+        Call::Seven(SevenCalls::AllMatch { key, .. }) => Call::Seven(SevenCalls::AllMatch {
             key,
             lent: MATCH_WORD.table(&vec![0; g.match_words()]),
         }),
@@ -228,19 +223,27 @@ fn with_own_match_word(g: &Geometry, call: &Call) -> Call {
 }
 
 /// Of an all-match, whose match word was left by the lent call: the words, and the addresses whose
-/// bits are 1.
-fn same_matches(memory: &cam::Memory, call: &Call) -> Result<(), String> {
-    let Call::Six(SixCalls::AllMatch { key, lent }) = call else {
+/// bits are 1, which a walk finds too, if it does on the lent tables.
+fn same_matches(
+    g: &Geometry,
+    memory: &cam::Memory,
+    tables: &Tables,
+    call: &Call,
+) -> Result<(), String> {
+    let Call::Seven(SevenCalls::AllMatch { key, lent }) = call else {
         return Ok(());
     };
     let Ok(found) = memory.all_match(*key) else {
         return Ok(());
     };
-    let holds = |&address: &u32| lent[address as usize / 64] >> (address % 64) & 1 == 1;
-    let addresses = (0..memory.geometry().depth).filter(holds);
-    match found.words == lent[..] && found.addresses().eq(addresses) {
-        true => Ok(()),
-        false => Err("the match word or its addresses are not the lent one's".to_string()),
+    let addresses = marked(lent);
+    if found.words != lent[..] || !found.addresses().eq(addresses.iter().copied()) {
+        return Err("the match word or its addresses are not the lent one's".to_string());
+    }
+    let lent_walks = walk(g, tables, *key, &addresses).is_ok();
+    match lent_walks && !memory.places(*key).eq(addresses.into_iter().map(Ok)) {
+        true => Err("a walk does not go as on the lent tables".to_string()),
+        false => Ok(()),
     }
 }
 

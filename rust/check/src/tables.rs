@@ -74,6 +74,16 @@ pub fn clear_bit(words: &mut [u64], row_start: usize, set: usize) {
     }
 }
 
+/// The addresses that have their bits in a match word (rule 3.7), ascending.
+pub fn marked(match_word: &[u64]) -> Vec<u32> {
+    let words = (0..).zip(match_word).filter(|(_, &word)| word != 0);
+    let addresses = words.flat_map(|(i, &word)| {
+        let ones = (0..64).filter(move |bit| word >> bit & 1 == 1);
+        ones.map(move |bit| 64 * i + bit)
+    });
+    addresses.collect()
+}
+
 /// Whether the set has its bit in the row of a pattern, in kind 1 in the row of every stage.
 pub fn in_every_row(g: &Geometry, indicators: &[u64], pattern: u32, set: usize) -> bool {
     (0..g.stages()).all(|stage| bit(indicators, g.row_start(pattern, stage), set))

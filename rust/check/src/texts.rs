@@ -1,7 +1,7 @@
 //! Failing histories as texts for `tools/camjob`, so that `make run` shows what a right core
 //! answers to them.
 
-use crate::family::{AnyAnswer, AnyCall, Family, Histories, ADDRESS};
+use crate::family::{AnyAnswer, AnyCall, Family, Histories, InJob, ADDRESS};
 use crate::geometry::Geometry;
 use crate::jobs;
 use crate::options::Options;
@@ -93,12 +93,22 @@ fn commands<F: Histories>(trial: &Trial<F>, failure: &Failure) -> Option<String>
     let mut command = 0;
     for (call, number) in trial.calls.iter().zip(1..) {
         let wrong = number == failure.call;
-        // In a history only an all-match gets this number, for the length of its match word.
-        if F::answer(&mut array, call).code() == 2 {
-            text += &comment(&no_command(&trial.notation(call), wrong));
-            continue;
+        let right = F::answer(&mut array, call).code();
+        let line = match call.in_job() {
+            // In a history only an all-match gets this number, for the length of its match word.
+            InJob::Command(_) if right == 2 => Err("a job's match word always fits"),
+            InJob::Command(line) => Ok(line),
+            InJob::Nothing(why) => Err(why),
+            InJob::NoJob => return None,
+        };
+        match line {
+            Ok(line) => text += &line,
+            Err(why) => {
+                let (call, right) = (trial.notation(call), call.describe(right));
+                text += &comment(&no_command(why, &call, &right, wrong));
+                continue;
+            }
         }
-        text += &call.job_line()?;
         if wrong {
             text += &format!("    # wrong here; the right line begins with {command}");
         }
@@ -108,9 +118,11 @@ fn commands<F: Histories>(trial: &Trial<F>, failure: &Failure) -> Option<String>
     Some(text)
 }
 
-fn no_command(call: &str, wrong: bool) -> String {
+/// The call and its right answer, where a job makes no such call. What comes after it is answered
+/// as if it had been made, for it writes no table.
+fn no_command(why: &str, call: &str, right: &str, wrong: bool) -> String {
     let here = if wrong { ", wrong here" } else { "" };
-    format!("No command, as a job's match word always fits: {call}; right is refusal 2{here}")
+    format!("No command, as {why}: {call}; right is {right}{here}")
 }
 
 /// Matches of the patterns that were written, as a wrong word of the tables leads to wrong answers

@@ -28,7 +28,8 @@ impl<F: Histories> Trial<F> {
     }
 
     /// Every answer is the plain array's (rules 10.2 and 10.6), and at the end so are the tables
-    /// (rule 10.3). The array runs first, so that it cannot know what the library does.
+    /// (rule 10.3); a walk after an all-match finds the same (rule 10.8). The array runs first, so
+    /// that it cannot know what the library does.
     pub fn judge_history(&self, tally: &mut Tally) -> Result<(), String> {
         let mut array = self.first_array().expect("it is a history");
         let mut answers = Vec::new();
@@ -43,6 +44,7 @@ impl<F: Histories> Trial<F> {
         note().begin_calls();
         for (call, right) in self.calls.iter().zip(&answers) {
             memory.call(call, right)?;
+            memory.walk(call, right)?;
         }
         note().begin_calls();
         memory

@@ -37,10 +37,16 @@ pub struct Death {
 impl Death {
     /// With the call, which is given in words where it is known.
     pub fn text(&self, call: Option<String>) -> String {
-        let Place { calls, inside, .. } = self.place;
+        let Place {
+            calls,
+            inside,
+            walking,
+            ..
+        } = self.place;
         let named = call.map_or(String::new(), |call| format!(", {call}"));
         let place = match (calls, inside) {
             (0, _) => String::new(),
+            (_, true) if walking => format!(" in a walk after call {calls}{named}"),
             (_, true) => format!(" in call {calls}{named}"),
             (_, false) if self.late => String::new(),
             (_, false) => {

@@ -18,8 +18,8 @@ use Rattle.checks.specs.Checks.{checked_tables}
 use Rattle.checks.proofs.Rows.{Reaches, row-stops, row-passes}
 use Rattle.calls.specs.Answers.{tables}
 use Rattle.collect.proofs.Marking.{length_marked}
-use Rattle.memory.proofs.Decided.{tables-left, call-reaches, pattern-stops, pattern-passes}
-use Rattle.memory.proofs.Outcomes.{refused-left, rest-left, matched-left}
+use Rattle.calls.proofs.Decided.{refused-left, rest-left, tables-left, call-reaches, pattern-stops, pattern-passes}
+use Rattle.memory.proofs.Outcomes.{matched-left}
 use Rattle.memory.proofs.all_match.Goals as goal
 use Rattle.memory.proofs.all_match.Goals.{In_ok-match_word}
 

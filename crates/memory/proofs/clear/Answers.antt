@@ -7,8 +7,8 @@ use Rattle.reference.specs.Calls.{clear, lent}
 use Rattle.reference.specs.Steps.{bad_matches, own_refusals, outcome}
 use Rattle.calls.specs.Answers.{tables, left}
 use Rattle.calls.specs.declared.Answer.TheVariants.{Cleared}
-use Rattle.memory.proofs.Decided.{tables-left, plain-reaches, call-lent}
-use Rattle.memory.proofs.Outcomes.{rest-left, cleared-left}
+use Rattle.calls.proofs.Decided.{rest-left, tables-left, plain-reaches, call-lent}
+use Rattle.memory.proofs.Outcomes.{cleared-left}
 use Rattle.memory.proofs.clear.Goals as goal
 
 pub returns-in_err-tables : goal.returns-in_err-tables

@@ -2,7 +2,7 @@
 use Rattle.std.proofs.Common.{rules, ◌≡◌, refl}
 use Rattle.reference.specs.Calls.{lent}
 use Rattle.checks.specs.Checks.{ok_map}
-use Rattle.calls.specs.declared.Answer.TheVariants.{Cleared, Held, Searched, Matched}
+use Rattle.calls.specs.declared.Answer.TheVariants.{Cleared, Held, Searched, Next, Matched}
 use Rattle.memory.proofs.Performing.{bare-performed, matches-performed}
 use Rattle.memory.proofs.perform.Goals as goal
 
@@ -30,6 +30,11 @@ pub returns-in-FirstMatch : goal.returns-in-FirstMatch
 returns-in-FirstMatch c =
     let is : c.map-in-FirstMatch.result ≡ ok_map Searched c.first_match.result = search rules in
     rw is (bare-performed _ _ _ c.in-FirstMatch.is _ _ _ _ _ tt c.first_match.ensures)
+
+pub returns-in-NextMatch : goal.returns-in-NextMatch
+returns-in-NextMatch c =
+    let is : c.map-in-NextMatch.result ≡ ok_map Next c.next_match.result = search rules in
+    rw is (bare-performed _ _ _ c.in-NextMatch.is _ _ _ _ _ tt c.next_match.ensures)
 
 pub returns-in-AllMatch : goal.returns-in-AllMatch
 unfolding lent

@@ -6,8 +6,8 @@ use Rattle.reference.specs.Refusals.{bad_pattern}
 use Rattle.reference.specs.Steps.{bad_matches, bad_entry, own_refusals, refusals, accepted}
 use Rattle.checks.proofs.Rows.{Reaches}
 use Rattle.calls.specs.Answers.{tables}
-use Rattle.memory.proofs.Decided.{tables-left, call-lent, address-stops, address-passes, pattern-stops, pattern-passes}
-use Rattle.memory.proofs.Outcomes.{refused-left, rest-left, replacing-left}
+use Rattle.calls.proofs.Decided.{refused-left, rest-left, tables-left, call-lent, address-stops, address-passes, pattern-stops, pattern-passes}
+use Rattle.memory.proofs.Outcomes.{replacing-left}
 use Rattle.memory.proofs.write.Goals as goal
 use Rattle.memory.proofs.write.Goals.{In_ok-row}
 

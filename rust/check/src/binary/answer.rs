@@ -1,5 +1,5 @@
-//! What comes back from the six calls, as the exported functions put it into one number (rules 12.1
-//! to 12.3 of docs/MEMORY.md), and in words.
+//! What comes back from the seven calls, as the exported functions put it into one number (rules
+//! 12.1 to 12.3 and 12.6 of docs/MEMORY.md), and in words.
 
 use crate::binary::call::Call;
 use crate::family::AnyAnswer;
@@ -23,6 +23,8 @@ pub enum Answer {
         words_read: u32,
         entries_compared: u32,
     },
+    /// Of a next-match, which has no counts (rule 7.8).
+    Next(Option<u32>),
     Matches {
         matches: Table<u64>,
         hits: u32,
@@ -47,6 +49,7 @@ impl AnyAnswer for Answer {
                 words_read,
                 entries_compared,
             } => first(NOWHERE, words_read, entries_compared),
+            Answer::Next(address) => 256 + address.map_or(NOWHERE, u64::from),
             Answer::Matches { hits, .. } => 256 + u64::from(hits),
         }
     }
@@ -66,6 +69,8 @@ impl AnyAnswer for Answer {
             Answer::Entry(Some(_)) => "pattern",
             Answer::NoMatch { .. } => "none",
             Answer::At { .. } => "at",
+            Answer::Next(None) => "no next",
+            Answer::Next(Some(_)) => "next",
             Answer::Matches { hits: 0, .. } => "no hits",
             Answer::Matches { .. } => "hits",
         }
@@ -96,6 +101,11 @@ pub fn describe(call: &Call, code: u64) -> String {
                 address => format!("at {address}, w {w}, c {c}"),
             }
         }
+        Call::NextMatch { .. } => match value {
+            NOWHERE => "none".to_string(),
+            0..NOWHERE => format!("at {value}"),
+            _ => format!("value {value}, which is over 65,535"),
+        },
         Call::AllMatch { .. } => format!("{value} hits"),
     }
 }

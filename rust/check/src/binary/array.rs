@@ -47,6 +47,7 @@ impl Array {
             Call::Erase { address } => self.replace(address, None),
             Call::Read { address } => Answer::Entry(self.entries[address as usize]),
             Call::FirstMatch { key } => self.first_match(key),
+            Call::NextMatch { address, key } => self.next_match(address, key),
             Call::AllMatch { key, .. } => self.all_match(key),
         }
     }
@@ -104,6 +105,12 @@ impl Array {
             words_read: self.geometry.row_words() as u32,
             entries_compared: 0,
         }
+    }
+
+    /// The smallest address above this one that has the key, whatever this one has (rule 5.9).
+    fn next_match(&self, address: u32, key: u32) -> Answer {
+        let mut above = address + 1..self.geometry.depth;
+        Answer::Next(above.find(|&a| self.entries[a as usize] == Some(key)))
     }
 
     /// The bit of each address that has the key, placed as rule 3.7 says, and how many there are

@@ -1,8 +1,8 @@
-//! The six calls with all that each is given (section 7 of docs/MEMORY.md), in the notation of its
-//! section 15.
+//! The seven calls with all that each is given (section 7 of docs/MEMORY.md), in the notation of
+//! its section 15.
 
 use crate::binary::answer::describe;
-use crate::family::{AnyCall, Sort, ADDRESS};
+use crate::family::{AnyCall, InJob, Sort, ADDRESS};
 use crate::lent::{Lent, Table};
 use std::fmt;
 
@@ -15,6 +15,7 @@ pub enum Call {
     Erase { address: u32 },
     Read { address: u32 },
     FirstMatch { key: u32 },
+    NextMatch { address: u32, key: u32 },
     AllMatch { key: u32, lent: Table<u64> },
 }
 
@@ -37,6 +38,7 @@ impl Call {
             Call::Erase { address } => ("erase", Some(address), None),
             Call::Read { address } => ("read", Some(address), None),
             Call::FirstMatch { key } => ("first-match", None, Some(key)),
+            Call::NextMatch { address, key } => ("next-match", Some(address), Some(key)),
             Call::AllMatch { key, .. } => ("all-match", None, Some(key)),
         }
     }
@@ -51,6 +53,7 @@ impl AnyCall for Call {
         match self {
             Call::Clear => vec![],
             Call::Write { address, pattern } => vec![(ADDRESS, address), (PATTERN, pattern)],
+            Call::NextMatch { address, key } => vec![(ADDRESS, address), (PATTERN, key)],
             Call::Erase { address } | Call::Read { address } => vec![(ADDRESS, address)],
             Call::FirstMatch { key } | Call::AllMatch { key, .. } => vec![(PATTERN, key)],
         }
@@ -70,7 +73,7 @@ impl AnyCall for Call {
         }
     }
 
-    /// The other three leave both tables as they are (rule 8.5).
+    /// The others leave both tables as they are (rule 8.5).
     fn writes_tables(&self) -> bool {
         matches!(self, Call::Clear | Call::Write { .. } | Call::Erase { .. })
     }
@@ -79,13 +82,14 @@ impl AnyCall for Call {
         describe(self, code)
     }
 
-    fn job_line(&self) -> Option<String> {
-        Some(match self {
+    fn in_job(&self) -> InJob {
+        InJob::Command(match self {
             Call::Clear => "clear".to_string(),
             Call::Write { address, pattern } => format!("write {address} {pattern}"),
             Call::Erase { address } => format!("erase {address}"),
             Call::Read { address } => format!("read {address}"),
             Call::FirstMatch { key } => format!("first {key}"),
+            Call::NextMatch { .. } => return InJob::Nothing("no operation is a next-match"),
             Call::AllMatch { key, .. } => format!("all {key}"),
         })
     }
@@ -99,6 +103,7 @@ impl fmt::Display for Call {
             Call::Erase { address } => write!(f, "erase {address}"),
             Call::Read { address } => write!(f, "read {address}"),
             Call::FirstMatch { key } => write!(f, "match {key}"),
+            Call::NextMatch { address, key } => write!(f, "next-match {key} above {address}"),
             Call::AllMatch { key, .. } => write!(f, "all-match {key}"),
         }
     }

@@ -3,7 +3,8 @@
 
 use crate::binary::call::Call;
 use crate::binary::lines::{
-    all, all_match, at, clear, erase, make, none, read, refused, script, write, Line, Script,
+    all, all_match, at, clear, erase, make, next, none, put, read, refused, script, walk_refused,
+    write, Line, Script,
 };
 use crate::geometry::{geometry, Geometry, CASCADED, SEGMENTED, TRANSPOSED};
 
@@ -29,6 +30,9 @@ pub fn cases() -> Vec<Script> {
     cases.push(set_width_limit());
     cases.extend(address_limits());
     cases.extend(pattern_limits());
+    cases.extend(next_in_s());
+    cases.extend(next_on_changed_tables());
+    cases.extend([walk_of_three_words(), next_joined()]);
     cases
 }
 
@@ -176,11 +180,117 @@ fn pattern_limits() -> Vec<Script> {
     ]
 }
 
+/// From the own set, from a later one, and none (rules 8.13 and 8.14); that the address itself has
+/// the key does not count (rule 5.9). 3 comes before 4 (rule 9.1).
+fn next_in_s() -> Vec<Script> {
+    let writes = || [write(2, 1, None), write(3, 1, None), write(6, 1, None)];
+    let own_set = [next(1, 2, Some(3))];
+    let other_set = [
+        next(1, 0, Some(2)),
+        next(1, 1, Some(2)),
+        next(1, 3, Some(6)),
+        next(1, 5, Some(6)),
+    ];
+    let none = [next(1, 6, None), next(2, 0, None), next(0, 0, None)];
+    let last = [write(7, 1, None), next(1, 6, Some(7)), next(1, 7, None)];
+    let out_of_range = [
+        refused(next_call(8, 4), 3),
+        refused(next_call(8, 1), 3),
+        refused(next_call(7, 4), 4),
+    ];
+    vec![
+        on_s("S, next in the own set", from_clear(writes(), own_set)),
+        on_s("S, next in another set", from_clear(writes(), other_set)),
+        on_s("S, no next", from_clear(writes(), none)),
+        on_s("S, next above address 7", from_clear([], last)),
+        on_s("S, next, out of range", from_clear([], out_of_range)),
+    ]
+}
+
+/// The own set is asked whatever its bit is and whatever the address has (rule 8.13); a false set
+/// hides the true one behind it (rule 8.14).
+fn next_on_changed_tables() -> Vec<Script> {
+    let no_bit = [
+        write(2, 1, None),
+        write(3, 1, None),
+        make(1, 8),
+        next(1, 2, Some(3)),
+        refused(next_call(3, 1), 6),
+    ];
+    let false_set = [
+        write(1, 1, None),
+        write(6, 1, None),
+        make(1, 11),
+        next(1, 0, Some(1)),
+        refused(next_call(1, 1), 6),
+        next(1, 2, Some(6)),
+        next(1, 3, Some(6)),
+        at(1, 1, 1, 2),
+        walk_refused(1, &[1], 6),
+    ];
+    let no_pattern = [
+        put(2, 4),
+        write(3, 1, None),
+        refused(Call::Read { address: 2 }, 5),
+        next(1, 2, Some(3)),
+        next(1, 3, None),
+    ];
+    vec![
+        on_s("S, next, no bit of its own", from_clear([], no_bit)),
+        on_s("S, next, a false set", from_clear([], false_set)),
+        on_s("S, next, no pattern", from_clear([], no_pattern)),
+    ]
+}
+
+/// A row of three words, where one ends and another begins, by next-matches and by the walk that
+/// follows an all-match (rule 10.8).
+fn walk_of_three_words() -> Script {
+    let held = [0, 63, 64, 127, 128, 129];
+    let mut lines = vec![clear()];
+    lines.extend(held.map(|address| write(address, 1, None)));
+    lines.push(at(1, 0, 1, 0));
+    lines.extend(held.windows(2).map(|two| next(1, two[0], Some(two[1]))));
+    lines.extend([
+        next(1, 129, None),
+        next(1, 1, Some(63)),
+        next(1, 65, Some(127)),
+    ]);
+    lines.push(all(1, &[1 << 63 | 1, 1 << 63 | 1, 3], 6));
+    // To a lower bit than that of the address; past a whole word.
+    lines.extend([write(9, 0, None), write(66, 0, None), next(0, 9, Some(66))]);
+    lines.extend([
+        erase(64, Some(1)),
+        erase(127, Some(1)),
+        next(1, 63, Some(128)),
+    ]);
+    let g = geometry(TRANSPOSED, 130, 1, 1);
+    script("D 130, a walk", g, (130, 6), lines)
+}
+
+/// In kind 1 the joined row is searched: address 1 shares a stage with the key, and no more
+/// (rule 8.6).
+fn next_joined() -> Script {
+    let g = geometry(CASCADED, 3, 10, 1);
+    let writes = [write(0, 513, None), write(1, 1, None), write(2, 513, None)];
+    let asked = [
+        next(513, 0, Some(2)),
+        next(513, 1, Some(2)),
+        next(513, 2, None),
+        next(1, 0, Some(1)),
+        next(512, 0, None),
+    ];
+    script("K with D 3, next", g, (3, 514), from_clear(writes, asked))
+}
+
+fn next_call(address: u32, key: u32) -> Call {
+    Call::NextMatch { address, key }
+}
+
 fn write_call(address: u32, pattern: u32) -> Call {
     Call::Write { address, pattern }
 }
 
-/// All six calls, which are good but for the geometry.
+/// All seven calls, which are good but for the geometry.
 fn every_call_refused(match_words: usize, number: u32) -> Vec<Line> {
     let (address, key) = (0, 0);
     let calls = [
@@ -189,6 +299,7 @@ fn every_call_refused(match_words: usize, number: u32) -> Vec<Line> {
         Call::Erase { address },
         Call::Read { address },
         Call::FirstMatch { key },
+        next_call(address, key),
         all_match(key, &vec![9; match_words]),
     ];
     calls

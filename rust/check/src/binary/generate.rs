@@ -4,10 +4,13 @@
 use crate::binary::call::Call;
 use crate::binary::{image, Tables};
 use crate::generate::{any_match_word, dirty_indicators, dirty_store};
-use crate::geometry::Geometry;
+use crate::geometry::{Geometry, SEGMENTED};
 use crate::pool::Pool;
 use crate::random::Random;
-use crate::tables::{EMPTY, INDICATORS, STORE};
+use crate::tables::{set_bit, EMPTY, INDICATORS, STORE};
+
+/// The sets at which a row word ends or begins.
+pub const EDGES: [usize; 4] = [63, 64, 127, 128];
 
 pub fn dirty_tables(random: &mut Random, g: &Geometry) -> Tables {
     Tables {
@@ -39,6 +42,14 @@ fn full_memory(random: &mut Random, g: &Geometry, pool: &Pool) -> Vec<Call> {
 }
 
 pub fn random_call(random: &mut Random, g: &Geometry, pool: &Pool) -> Call {
+    match random.below(8) {
+        0 => next_match(random, g, pool),
+        _ => call_of_jobs(random, g, pool),
+    }
+}
+
+/// Any call but a next-match.
+pub fn call_of_jobs(random: &mut Random, g: &Geometry, pool: &Pool) -> Call {
     match random.below(100) {
         0..=39 => Call::Write {
             address: pool.any_address(random, g),
@@ -61,10 +72,40 @@ pub fn random_call(random: &mut Random, g: &Geometry, pool: &Pool) -> Call {
     }
 }
 
-/// Clears have little to show on damaged tables, so they get no more than their share.
+fn next_match(random: &mut Random, g: &Geometry, pool: &Pool) -> Call {
+    Call::NextMatch {
+        address: pool.any_address(random, g),
+        key: pool.any_key(random, g),
+    }
+}
+
+/// Where there are sets at edges, often above one of them, for the pattern that they have; at times
+/// out of range in both numbers.
+fn next_match_on_edges(random: &mut Random, g: &Geometry, pool: &Pool) -> Call {
+    let set = random.pick(&[0, 63, 63, 64, 127, 127]);
+    match random.below(32) {
+        0 => Call::NextMatch {
+            address: g.depth + random.below(2),
+            key: g.patterns() + random.below(2),
+        },
+        1..=20 if set < g.sets() => Call::NextMatch {
+            address: any_of_set(random, g, set),
+            key: pool.patterns[0],
+        },
+        _ => next_match(random, g, pool),
+    }
+}
+
+fn any_of_set(random: &mut Random, g: &Geometry, set: usize) -> u32 {
+    g.addresses_of(set).start + random.below(g.set_width)
+}
+
+/// Clears have little to show on damaged tables, so they get no more than their share, and
+/// next-matches more than theirs.
 pub fn mostly_not_clear(random: &mut Random, g: &Geometry, pool: &Pool) -> Call {
     match random.below(25) {
         0 => Call::Clear,
+        1..=4 => next_match_on_edges(random, g, pool),
         _ => random_call(random, g, pool),
     }
 }
@@ -90,6 +131,27 @@ pub fn damaged_tables(random: &mut Random, g: &Geometry, pool: &Pool) -> Tables 
     }
     for _ in 0..random.below(6) {
         damage_indicators(random, g, pool, &mut tables.indicators);
+    }
+    tables
+}
+
+/// Mostly some sets at edges get the first pattern of the pool: its bits, and in kind 2 often an
+/// entry, so that next-matches meet them.
+pub fn tables_of_single_calls(random: &mut Random, g: &Geometry, pool: &Pool) -> Tables {
+    let mut tables = damaged_tables(random, g, pool);
+    let pattern = pool.patterns[0];
+    let any = random.below(16);
+    // The last one alone is found past a whole word.
+    let chosen = random.pick(&[any, any, any, 8]);
+    for (i, &set) in EDGES.iter().enumerate() {
+        if set < g.sets() && chosen >> i & 1 == 1 {
+            for stage in 0..g.stages() {
+                set_bit(&mut tables.indicators, g.row_start(pattern, stage), set);
+            }
+            if g.kind == SEGMENTED && !random.one_in(8) {
+                tables.store[any_of_set(random, g, set) as usize] = pattern;
+            }
+        }
     }
     tables
 }

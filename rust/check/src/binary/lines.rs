@@ -1,11 +1,13 @@
-//! Scripts of the six calls, and their lines.
+//! Scripts of the seven calls, and their lines.
 
 use crate::binary::answer::Answer;
 use crate::binary::call::Call;
+use crate::binary::library::wrapped;
 use crate::binary::{Binary, Tables};
 use crate::geometry::Geometry;
 use crate::script;
 use crate::tables::{INDICATORS, MATCH_WORD, STORE};
+use cam::Refusal;
 
 pub type Script = script::Script<Binary>;
 pub type Line = script::Line<Binary>;
@@ -65,6 +67,26 @@ pub fn none(key: u32, words_read: u32, entries_compared: u32) -> Line {
     Line::Call(Call::FirstMatch { key }, right)
 }
 
+/// A next-match above the address that comes to this one, or to none.
+pub fn next(key: u32, address: u32, next: Option<u32>) -> Line {
+    Line::Call(Call::NextMatch { address, key }, Answer::Next(next))
+}
+
+/// A walk of the wrapper that comes to these addresses and then to a refusal, which is its end.
+pub fn walk_refused(key: u32, right: &'static [u32], number: u32) -> Line {
+    Line::look(move |memory| {
+        let (g, tables) = (wrapped(&memory.geometry), &memory.tables);
+        let places = g.places(&tables.store, &tables.indicators, key);
+        let given = places.take(right.len() + 2);
+        let given: Vec<_> = given.map(|place| place.map_err(Refusal::number)).collect();
+        let right: Vec<_> = right.iter().copied().map(Ok).chain([Err(number)]).collect();
+        match given == right {
+            true => Ok(()),
+            false => Err(format!("a walk gives {given:?}; right is {right:?}")),
+        }
+    })
+}
+
 /// An all-match, lent a match word that is not zero.
 pub fn all(key: u32, matches: &[u64], hits: u32) -> Line {
     let right = Answer::Matches {
@@ -90,6 +112,14 @@ pub fn refused(call: Call, number: u32) -> Line {
 pub fn make(word: usize, value: u64) -> Line {
     Line::look(move |memory| {
         memory.tables.indicators[word] = value;
+        Ok(())
+    })
+}
+
+/// A word of the store is made this number by hand.
+pub fn put(address: usize, number: u32) -> Line {
+    Line::look(move |memory| {
+        memory.tables.store[address] = number;
         Ok(())
     })
 }

@@ -1,5 +1,5 @@
-//! The binary memory, written a second time from docs/MEMORY.md: the six calls, on the plain array
-//! and on any tables.
+//! The binary memory, written a second time from docs/MEMORY.md: the seven calls, on the plain
+//! array and on any tables.
 
 pub mod answer;
 pub mod array;
@@ -9,6 +9,7 @@ pub mod generate;
 pub mod image;
 pub mod library;
 pub mod lines;
+mod next_subjects;
 mod required;
 mod steps;
 pub mod subjects;
@@ -23,6 +24,7 @@ use crate::pool::Pool;
 use crate::random::Random;
 use crate::shapes;
 use crate::subjects::Subject;
+use crate::tables::marked;
 use answer::Answer;
 use array::Array;
 use call::Call;
@@ -75,6 +77,15 @@ impl Family for Binary {
         library::typed(g, tables, call)
     }
 
+    fn walk(g: &Geometry, tables: &Tables, call: &Call, answer: &Answer) -> Result<(), String> {
+        match (call, answer) {
+            (Call::AllMatch { key, .. }, Answer::Matches { matches, .. }) => {
+                library::walk(g, tables, *key, &marked(matches))
+            }
+            _ => Ok(()),
+        }
+    }
+
     fn random_geometry(random: &mut Random) -> Geometry {
         shapes::random_geometry(random)
     }
@@ -84,7 +95,7 @@ impl Family for Binary {
     }
 
     fn damaged_tables(random: &mut Random, g: &Geometry, pool: &Pool) -> Tables {
-        generate::damaged_tables(random, g, pool)
+        generate::tables_of_single_calls(random, g, pool)
     }
 
     fn single_call(random: &mut Random, g: &Geometry, pool: &Pool) -> Call {

@@ -1,6 +1,6 @@
-//! What the random trials of the six calls must meet.
+//! What the random trials of the seven calls must meet.
 
-use crate::binary::subjects;
+use crate::binary::{next_subjects, subjects};
 use crate::coverage::Required;
 use crate::geometry::SEGMENTED;
 use crate::subjects::BROKEN_RULES;
@@ -17,10 +17,11 @@ pub const OF_HISTORIES: Required = Required {
         ("erase", &["refusal 3", "empty", "pattern"]),
         ("read", &["refusal 3", "empty", "pattern"]),
         ("first-match", &["refusal 4", "none", "at"]),
+        ("next-match", &["refusal 3", "refusal 4", "no next", "next"]),
         ("all-match", &["refusal 2", "refusal 4", "no hits", "hits"]),
     ],
     occurs,
-    subjects: &[subjects::OF_HISTORIES],
+    subjects: &[subjects::OF_HISTORIES, next_subjects::OF_HISTORIES],
 };
 
 /// Of a single call that is given an address and no pattern.
@@ -62,6 +63,18 @@ pub const OF_SINGLE_CALLS: Required = Required {
             ],
         ),
         (
+            "next-match",
+            &[
+                "refusal 1",
+                "refusal 2",
+                "refusal 3",
+                "refusal 4",
+                "refusal 6",
+                "no next",
+                "next",
+            ],
+        ),
+        (
             "all-match",
             &[
                 "refusal 1",
@@ -74,5 +87,10 @@ pub const OF_SINGLE_CALLS: Required = Required {
         ),
     ],
     occurs,
-    subjects: &[BROKEN_RULES, subjects::OF_SINGLE_CALLS],
+    subjects: &[
+        BROKEN_RULES,
+        subjects::OF_SINGLE_CALLS,
+        next_subjects::OF_SINGLE_CALLS,
+        next_subjects::IN_EACH_KIND,
+    ],
 };

@@ -19,6 +19,7 @@ pub fn step(g: &Geometry, tables: &mut Tables, call: &Call) -> Answer {
         Call::Erase { address } => erase(g, tables, address),
         Call::Read { address } => entry_answer(tables.store[address as usize]),
         Call::FirstMatch { key } => first_match(g, tables, key),
+        Call::NextMatch { address, key } => next_match(g, tables, address, key),
         Call::AllMatch { key, .. } => all_match(g, tables, key),
     }
 }
@@ -37,7 +38,7 @@ fn refusal(g: &Geometry, tables: &Tables, call: &Call) -> Option<u32> {
     if call.pattern().is_some_and(|p| p >= g.patterns()) {
         return Some(4);
     }
-    if let Some(address) = call.address() {
+    if let Some(address) = address_of_entry(call) {
         let entry = tables.store[address as usize];
         if entry != EMPTY && entry >= g.patterns() {
             return Some(5);
@@ -53,13 +54,26 @@ fn lengths_fit(g: &Geometry, tables: &Tables, call: &Call) -> bool {
     tables.fit(g) && call.lent().is_none_or(|lent| lent.fits(g))
 }
 
-/// Only the first indicated set matters to a first-match, every one to an all-match (rule 8.9).
+/// Of the calls that are given an address, a next-match alone does not ask what it has (rule 8.13).
+fn address_of_entry(call: &Call) -> Option<u32> {
+    match call {
+        Call::NextMatch { .. } => None,
+        _ => call.address(),
+    }
+}
+
+/// Only the first indicated set matters to a first-match, every one to an all-match (rule 8.9), and
+/// to a next-match the first one after its own set, where that has no answer (rule 8.14).
 fn meets_false_set(g: &Geometry, tables: &Tables, call: &Call) -> bool {
     let is_false = |set: usize, key: u32| equal_entries(g, tables, set, key).is_empty();
     match *call {
         Call::FirstMatch { key } => indicated_sets(g, tables, key)
             .first()
             .is_some_and(|&set| is_false(set, key)),
+        Call::NextMatch { address, key } => {
+            next_in_own_set(g, tables, address, key).is_none()
+                && next_indicated(g, tables, address, key).is_some_and(|set| is_false(set, key))
+        }
         Call::AllMatch { key, .. } => indicated_sets(g, tables, key)
             .iter()
             .any(|&set| is_false(set, key)),
@@ -147,6 +161,34 @@ fn first_match(g: &Geometry, tables: &Tables, key: u32) -> Answer {
         words_read,
         entries_compared: 0,
     }
+}
+
+/// From the own set, else from the first indicated set after it, whose number in kinds 0 and 1 is
+/// the address (rule 8.14).
+fn next_match(g: &Geometry, tables: &Tables, address: u32, key: u32) -> Answer {
+    let next = next_in_own_set(g, tables, address, key);
+    let later = || {
+        let set = next_indicated(g, tables, address, key)?;
+        Some(match g.kind {
+            // A false set was refused with 6.
+            SEGMENTED => equal_entries(g, tables, set, key)[0],
+            _ => set as u32,
+        })
+    };
+    Answer::Next(next.or_else(later))
+}
+
+/// The lowest address of the own set that is above the address and has the key. The indicators are
+/// not asked (rule 8.13). In kinds 0 and 1 the set ends with the address.
+fn next_in_own_set(g: &Geometry, tables: &Tables, address: u32, key: u32) -> Option<u32> {
+    let mut own = g.addresses_of(g.set_of(address));
+    own.find(|&a| a > address && tables.store[a as usize] == key)
+}
+
+/// The first indicated set after that of the address.
+fn next_indicated(g: &Geometry, tables: &Tables, address: u32, key: u32) -> Option<usize> {
+    let mut later = g.set_of(address) + 1..g.sets();
+    later.find(|&set| is_indicated(g, tables, key, set))
 }
 
 /// The hits, and the match word that has their bits alone (rule 8.8).

@@ -1,12 +1,13 @@
-//! The troubles that the random trials of the six calls are made to meet, by name, and how each is
-//! recognised.
+//! The troubles that the random trials of the seven calls are made to meet, by name, and how each
+//! is recognised; those of next-matches are in `next_subjects`.
 
 use crate::binary::answer::Answer;
 use crate::binary::array::Array;
 use crate::binary::call::Call;
+use crate::binary::next_subjects;
 use crate::binary::Tables;
 use crate::geometry::{Geometry, CASCADED, SEGMENTED};
-use crate::subjects::{alone, broken_rules, limits, Subject};
+use crate::subjects::{alone, broken_rules, limits, those, Subject};
 use crate::tables::{in_every_row, EMPTY};
 
 const LARGEST: Subject = "a clear at depth 4,096 with the widest patterns";
@@ -21,7 +22,8 @@ const STAGES_MIXED: Subject = "a key whose stages are all stored, but not in one
 const OTHER_LOW_NINE: Subject = "a key that differs from an entry in the low nine bits alone";
 const OTHER_MIDDLE_NINE: Subject = "a key that differs from an entry in the middle nine bits alone";
 const OTHER_TOP_NINE: Subject = "a key that differs from an entry in the top nine bits alone";
-const OTHER_NARROW_LAST: Subject = "a key that differs from an entry in the narrow last stage alone";
+const OTHER_NARROW_LAST: Subject =
+    "a key that differs from an entry in the narrow last stage alone";
 pub const CLEARED_LATER: Subject = "a clear of a memory that holds something";
 pub const LATER_WORD: Subject = "a first match after the first word of its row";
 pub const LATER_PLACE: Subject = "a first match past offset 0 of its set";
@@ -109,21 +111,30 @@ pub fn of_history(before: &Array, call: &Call, answer: &Answer) -> Vec<Subject> 
             add(HELD_AGAIN, neighbour_holds(g, entries, address, key));
         }
         (&Call::FirstMatch { key }, Answer::NoMatch { .. }) => {
-            add(ZERO_MISSED, key == 0 && entries.contains(&None));
-            add(
-                STAGES_MIXED,
-                g.stages() > 1 && stages_are_stored(g, entries, key),
-            );
-            if g.kind == CASCADED {
-                let others = entries.iter().flatten();
-                met.extend(others.filter_map(|&p| other_box(g, p, key)));
-            }
+            met.extend(of_missed(g, entries, key));
+        }
+        (&Call::NextMatch { address, key }, &Answer::Next(next)) => {
+            met.extend(next_subjects::of_history(g, entries, (address, key), next));
         }
         (_, Answer::Matches { matches, .. }) => {
             let words = matches.iter().filter(|&&word| word != 0);
             add(WORDS_OF_HITS, words.count() > 1);
         }
         _ => {}
+    }
+    met
+}
+
+/// Of a key that no address has.
+fn of_missed(g: &Geometry, entries: &[Option<u32>], key: u32) -> Vec<Subject> {
+    let mixed = g.stages() > 1 && stages_are_stored(g, entries, key);
+    let mut met = those(&[
+        (key == 0 && entries.contains(&None), ZERO_MISSED),
+        (mixed, STAGES_MIXED),
+    ]);
+    if g.kind == CASCADED {
+        let others = entries.iter().flatten();
+        met.extend(others.filter_map(|&p| other_box(g, p, key)));
     }
     met
 }
@@ -176,6 +187,9 @@ pub fn of_step(g: &Geometry, tables: &Tables, call: &Call, answer: &Answer) -> V
             Call::Write { address, pattern } => of_write(g, tables, address, pattern, answer),
             Call::Erase { address } => of_replaced(g, tables, address, answer),
             Call::FirstMatch { key } | Call::AllMatch { key, .. } => of_match(g, tables, key),
+            Call::NextMatch { address, key } => {
+                next_subjects::of_step(g, tables, (address, key), answer)
+            }
             _ => Vec::new(),
         },
     }
@@ -274,6 +288,6 @@ pub fn holders(g: &Geometry, tables: &Tables, set: usize, p: u32) -> usize {
 }
 
 /// In kind 1 padding bits matter where they stand in the rows of all stages.
-fn padding_in_row(g: &Geometry, tables: &Tables, p: u32) -> bool {
+pub fn padding_in_row(g: &Geometry, tables: &Tables, p: u32) -> bool {
     (g.sets()..64 * g.row_words()).any(|bit| in_every_row(g, &tables.indicators, p, bit))
 }

@@ -1,7 +1,7 @@
 //! Random jobs: files of all sorts, with commands that get in one another's way.
 
 use crate::binary::call::Call;
-use crate::binary::generate::random_call;
+use crate::binary::generate::call_of_jobs;
 use crate::geometry::{geometry, Geometry, CASCADED, SEGMENTED, TRANSPOSED};
 use crate::jobs::job::{Command, Header, Job, COMMAND, HEADER, LONGEST_FILE};
 use crate::pool::Pool;
@@ -89,7 +89,7 @@ fn any_commands(random: &mut Random) -> (Geometry, Vec<Command>) {
 }
 
 fn random_command(random: &mut Random, g: &Geometry, pool: &Pool) -> Command {
-    let mut command = Command::of_call(&random_call(random, g, pool));
+    let mut command = Command::of_call(&call_of_jobs(random, g, pool));
     match random.below(32) {
         0 => command.operation = random.pick(&[0, 7, 8, u32::MAX]),
         1 => command.operation += high_byte(random),

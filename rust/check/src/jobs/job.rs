@@ -16,7 +16,7 @@ pub const LONGEST_FILE: usize = 16_384;
 pub const DEEPEST: u32 = 1024;
 pub const MOST_INDICATORS: usize = 4096;
 
-/// The calls in the order of their operations, from 1 on (rule 13.4).
+/// The calls in the order of their operations, from 1 on (rule 13.4). A next-match has none.
 const OPERATIONS: [&str; 6] = [
     "write",
     "erase",
@@ -96,7 +96,7 @@ impl Command {
     pub fn of_call(call: &Call) -> Command {
         let place = OPERATIONS.iter().position(|&name| name == call.name());
         Command {
-            operation: place.expect("every call is an operation") as u32 + 1,
+            operation: place.expect("it is no next-match") as u32 + 1,
             address: call.address().unwrap_or(0),
             pattern: call.pattern().unwrap_or(0),
         }

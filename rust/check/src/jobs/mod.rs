@@ -1,5 +1,5 @@
 //! Random jobs for the program `camrun`: job files and their reports (sections 13 and 14 of
-//! docs/MEMORY.md), written a second time on the plain array of the six calls.
+//! docs/MEMORY.md), written a second time on the plain array. No operation is a next-match.
 
 mod camrun;
 mod command_subjects;

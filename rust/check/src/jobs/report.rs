@@ -66,6 +66,7 @@ fn items(answer: &Answer) -> String {
             words_read: w,
             entries_compared: c,
         } => format!("none w {w} c {c}"),
+        Answer::Next(_) => unreachable!("no command is a next-match"),
         Answer::Matches { matches, hits } => {
             let mut text = format!("hits {hits}");
             for word in matches.iter() {

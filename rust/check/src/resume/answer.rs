@@ -1,6 +1,6 @@
-//! What comes back from a resume, and from the six calls beside it.
+//! What comes back from a resume, and from the seven calls beside it.
 
-use crate::binary::answer::Answer as OfTheSix;
+use crate::binary::answer::Answer as OfTheSeven;
 use crate::family::AnyAnswer;
 use crate::lent::Lent;
 
@@ -9,7 +9,7 @@ pub enum Answer {
     Resumed,
     /// Of a resume (rule 9.3).
     Refused(u32),
-    Six(OfTheSix),
+    Seven(OfTheSeven),
 }
 
 impl AnyAnswer for Answer {
@@ -17,7 +17,7 @@ impl AnyAnswer for Answer {
         match self {
             Answer::Resumed => 256,
             Answer::Refused(number) => u64::from(*number),
-            Answer::Six(answer) => answer.code(),
+            Answer::Seven(answer) => answer.code(),
         }
     }
 
@@ -28,13 +28,13 @@ impl AnyAnswer for Answer {
             Answer::Refused(2) => "refusal 2",
             Answer::Refused(10) => "refusal 10",
             Answer::Refused(_) => unreachable!("no other number is ever right"),
-            Answer::Six(answer) => answer.label(),
+            Answer::Seven(answer) => answer.label(),
         }
     }
 
     fn left(&self) -> Option<&dyn Lent> {
         match self {
-            Answer::Six(answer) => answer.left(),
+            Answer::Seven(answer) => answer.left(),
             _ => None,
         }
     }

@@ -1,43 +1,43 @@
-//! A resume, which is given nothing but the tables (rule 7.7 of docs/MEMORY.md), beside the six
+//! A resume, which is given nothing but the tables (rule 7.7 of docs/MEMORY.md), beside the seven
 //! calls.
 
-use crate::binary::call::Call as SixCalls;
-use crate::family::{AnyCall, Sort};
+use crate::binary::call::Call as SevenCalls;
+use crate::family::{AnyCall, InJob, Sort};
 use crate::lent::Lent;
 use std::fmt;
 
 #[derive(Clone)]
 pub enum Call {
     Resume,
-    Six(SixCalls),
+    Seven(SevenCalls),
 }
 
 impl AnyCall for Call {
     fn name(&self) -> &'static str {
         match self {
             Call::Resume => "resume",
-            Call::Six(call) => call.name(),
+            Call::Seven(call) => call.name(),
         }
     }
 
     fn numbers(&mut self) -> Vec<(Sort, &mut u32)> {
         match self {
             Call::Resume => vec![],
-            Call::Six(call) => call.numbers(),
+            Call::Seven(call) => call.numbers(),
         }
     }
 
     fn lent(&self) -> Option<&dyn Lent> {
         match self {
             Call::Resume => None,
-            Call::Six(call) => call.lent(),
+            Call::Seven(call) => call.lent(),
         }
     }
 
     fn lent_mut(&mut self) -> Option<&mut dyn Lent> {
         match self {
             Call::Resume => None,
-            Call::Six(call) => call.lent_mut(),
+            Call::Seven(call) => call.lent_mut(),
         }
     }
 
@@ -45,7 +45,7 @@ impl AnyCall for Call {
     fn writes_tables(&self) -> bool {
         match self {
             Call::Resume => false,
-            Call::Six(call) => call.writes_tables(),
+            Call::Seven(call) => call.writes_tables(),
         }
     }
 
@@ -53,15 +53,14 @@ impl AnyCall for Call {
         match self {
             Call::Resume if code < 256 => format!("refusal {code}"),
             Call::Resume => format!("accepted, value {}", code - 256),
-            Call::Six(call) => call.describe(code),
+            Call::Seven(call) => call.describe(code),
         }
     }
 
-    /// No job has a resume.
-    fn job_line(&self) -> Option<String> {
+    fn in_job(&self) -> InJob {
         match self {
-            Call::Resume => None,
-            Call::Six(call) => call.job_line(),
+            Call::Resume => InJob::NoJob,
+            Call::Seven(call) => call.in_job(),
         }
     }
 }
@@ -70,7 +69,7 @@ impl fmt::Display for Call {
     fn fmt(&self, f: &mut fmt::Formatter) -> fmt::Result {
         match self {
             Call::Resume => write!(f, "resume"),
-            Call::Six(call) => write!(f, "{call}"),
+            Call::Seven(call) => write!(f, "{call}"),
         }
     }
 }

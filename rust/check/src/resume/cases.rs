@@ -90,31 +90,31 @@ fn refused(number: u32) -> Line {
     Line::Call(Call::Resume, Answer::Refused(number))
 }
 
-/// A line of the six calls.
-fn six(line: lines::Line) -> Line {
+/// A line of the seven calls.
+fn seven(line: lines::Line) -> Line {
     match line {
-        lines::Line::Call(call, right) => Line::Call(Call::Six(call), Answer::Six(right)),
+        lines::Line::Call(call, right) => Line::Call(Call::Seven(call), Answer::Seven(right)),
         lines::Line::Look(_) => unreachable!("it is a call"),
     }
 }
 
 /// Tables that some history left, and calls that go on from there (rules 10.6 and 10.7).
 fn taken_over() -> Vec<Script> {
-    let empty = vec![resumed(), six(lines::none(0, 1, 0))];
+    let empty = vec![resumed(), seven(lines::none(0, 1, 0))];
     let p3 = vec![
         resumed(),
-        six(lines::at(1, 2, 1, 2)),
-        six(lines::write(3, 1, Some(2))),
+        seven(lines::at(1, 2, 1, 2)),
+        seven(lines::write(3, 1, Some(2))),
         resumed(),
-        six(lines::erase(2, Some(1))),
-        six(lines::at(1, 3, 1, 2)),
-        six(lines::none(2, 1, 0)),
+        seven(lines::erase(2, Some(1))),
+        seven(lines::at(1, 3, 1, 2)),
+        seven(lines::none(2, 1, 0)),
         resumed(),
     ];
     let p6 = vec![
         resumed(),
-        six(lines::none(513, 1, 0)),
-        six(lines::at(514, 1, 1, 0)),
+        seven(lines::none(513, 1, 0)),
+        seven(lines::at(514, 1, 1, 0)),
     ];
     let of_p6 = [(1, 1), (2, 2), (512, 1), (513, 2)];
     vec![

@@ -1,8 +1,8 @@
 //! The plain array of a history that resumes may begin and cut, and what tells how it came about.
 
-use crate::binary::answer::Answer as OfTheSix;
+use crate::binary::answer::Answer as OfTheSeven;
 use crate::binary::array::Array;
-use crate::binary::call::Call as SixCalls;
+use crate::binary::call::Call as SevenCalls;
 use crate::resume::{Answer, Call};
 
 #[derive(Clone)]
@@ -52,20 +52,21 @@ impl Course {
                 self.taken_over.fill(true);
                 Answer::Resumed
             }
-            Call::Six(call) => {
+            Call::Seven(call) => {
                 let answer = self.array.call(call);
                 self.changed_by(call, &answer);
-                Answer::Six(answer)
+                Answer::Seven(answer)
             }
         }
     }
 
-    fn changed_by(&mut self, call: &SixCalls, answer: &OfTheSix) {
+    fn changed_by(&mut self, call: &SevenCalls, answer: &OfTheSeven) {
         match (call, answer) {
-            (SixCalls::Clear, _) => self.taken_over.fill(false),
-            (SixCalls::Write { address, .. } | SixCalls::Erase { address }, OfTheSix::Entry(_)) => {
-                self.taken_over[*address as usize] = false
-            }
+            (SevenCalls::Clear, _) => self.taken_over.fill(false),
+            (
+                SevenCalls::Write { address, .. } | SevenCalls::Erase { address },
+                OfTheSeven::Entry(_),
+            ) => self.taken_over[*address as usize] = false,
             _ => {}
         }
     }

@@ -10,13 +10,13 @@ use crate::random::Random;
 use crate::resume::Call;
 use crate::tables::EMPTY;
 
-/// Half of the histories begin with a resume, the others as those of the six calls do.
+/// Half of the histories begin with a resume, the others as those of the seven calls do.
 pub fn opening(random: &mut Random, g: &Geometry, pool: &Pool) -> Vec<Call> {
     match random.one_in(2) {
         true => vec![Call::Resume],
         false => {
             let calls = generate::opening(random, g, pool);
-            calls.into_iter().map(Call::Six).collect()
+            calls.into_iter().map(Call::Seven).collect()
         }
     }
 }
@@ -24,7 +24,7 @@ pub fn opening(random: &mut Random, g: &Geometry, pool: &Pool) -> Vec<Call> {
 pub fn any_call(random: &mut Random, g: &Geometry, pool: &Pool) -> Call {
     match random.below(16) {
         0 => Call::Resume,
-        _ => Call::Six(random_call(random, g, pool)),
+        _ => Call::Seven(random_call(random, g, pool)),
     }
 }
 

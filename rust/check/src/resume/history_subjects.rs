@@ -1,7 +1,7 @@
 //! The troubles that histories with resumes are made to meet, by name, and how each is recognised.
 
-use crate::binary::answer::Answer as OfTheSix;
-use crate::binary::call::Call as SixCalls;
+use crate::binary::answer::Answer as OfTheSeven;
+use crate::binary::call::Call as SevenCalls;
 use crate::binary::subjects::neighbour_holds;
 use crate::resume::course::Course;
 use crate::resume::{Answer, Call};
@@ -31,7 +31,7 @@ pub const OF_HISTORIES: &[&[Subject]] = &[
 pub fn of_history(before: &Course, call: &Call, answer: &Answer) -> Vec<Subject> {
     match (call, answer) {
         (Call::Resume, _) => of_cut(before),
-        (Call::Six(call), Answer::Six(answer)) => of_six(before, call, answer),
+        (Call::Seven(call), Answer::Seven(answer)) => of_seven(before, call, answer),
         _ => Vec::new(),
     }
 }
@@ -48,20 +48,20 @@ fn of_cut(before: &Course) -> Vec<Subject> {
     ])
 }
 
-fn of_six(before: &Course, call: &SixCalls, answer: &OfTheSix) -> Vec<Subject> {
+fn of_seven(before: &Course, call: &SevenCalls, answer: &OfTheSeven) -> Vec<Subject> {
     let (g, entries) = (&before.array().geometry(), before.array().entries());
     let kind = g.kind as usize;
     let taken_over = |address| before.is_taken_over(address);
     match (call, answer) {
-        (SixCalls::FirstMatch { .. }, &OfTheSix::At { address, .. }) => {
+        (SevenCalls::FirstMatch { .. }, &OfTheSeven::At { address, .. }) => {
             those(&[(taken_over(address), FOUND[kind])])
         }
-        (&SixCalls::Write { address, pattern }, &OfTheSix::Entry(Some(q))) => {
+        (&SevenCalls::Write { address, pattern }, &OfTheSeven::Entry(Some(q))) => {
             let over = taken_over(address) && pattern != q;
             let shared = neighbour_holds(g, entries, address, q);
             those(&[(over, OVERWRITTEN[kind]), (over && shared, SHARED)])
         }
-        (&SixCalls::Erase { address }, OfTheSix::Entry(Some(_))) => {
+        (&SevenCalls::Erase { address }, OfTheSeven::Entry(Some(_))) => {
             those(&[(taken_over(address), ERASED[kind])])
         }
         _ => Vec::new(),

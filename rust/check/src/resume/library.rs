@@ -1,6 +1,6 @@
 //! A resume made through both layers of the wrapper crate, and of the tables that a memory owns.
 
-use crate::binary::library::{owned as owned_six, wrapped};
+use crate::binary::library::{owned as owned_seven, wrapped};
 use crate::binary::{Binary, Tables};
 use crate::family::Family;
 use crate::geometry::Geometry;
@@ -10,14 +10,14 @@ use cam::{raw, Memory, Refusal};
 pub fn raw(g: &Geometry, tables: &mut Tables, call: &mut Call) -> u64 {
     match call {
         Call::Resume => raw::resume(wrapped(g), &tables.store, &tables.indicators),
-        Call::Six(call) => Binary::raw(g, tables, call),
+        Call::Seven(call) => Binary::raw(g, tables, call),
     }
 }
 
 pub fn typed(g: &Geometry, tables: &mut Tables, call: &mut Call) -> Answer {
     match call {
         Call::Resume => answer(wrapped(g).resume(&tables.store, &tables.indicators)),
-        Call::Six(call) => Answer::Six(Binary::typed(g, tables, call)),
+        Call::Seven(call) => Answer::Seven(Binary::typed(g, tables, call)),
     }
 }
 
@@ -29,7 +29,7 @@ pub fn owned(memory: &mut Memory, call: &Call) -> Answer {
             let resumed = Memory::resumed(memory.geometry(), store, indicators);
             answer(resumed.map(|resumed| *memory = resumed))
         }
-        Call::Six(call) => Answer::Six(owned_six(memory, call)),
+        Call::Seven(call) => Answer::Seven(owned_seven(memory, call)),
     }
 }
 

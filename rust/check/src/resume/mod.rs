@@ -1,4 +1,4 @@
-//! Resume, written a second time from docs/MEMORY.md: alone on any tables, and with the six calls
+//! Resume, written a second time from docs/MEMORY.md: alone on any tables, and with the seven calls
 //! in histories that it begins or cuts.
 
 mod answer;
@@ -49,7 +49,7 @@ impl Family for Resume {
     fn step(g: &Geometry, tables: &mut Tables, call: &Call) -> Answer {
         match call {
             Call::Resume => step::resume(g, tables),
-            Call::Six(call) => Answer::Six(Binary::step(g, tables, call)),
+            Call::Seven(call) => Answer::Seven(Binary::step(g, tables, call)),
         }
     }
 
@@ -59,6 +59,13 @@ impl Family for Resume {
 
     fn typed(g: &Geometry, tables: &mut Tables, call: &mut Call) -> Answer {
         library::typed(g, tables, call)
+    }
+
+    fn walk(g: &Geometry, tables: &Tables, call: &Call, answer: &Answer) -> Result<(), String> {
+        match (call, answer) {
+            (Call::Seven(call), Answer::Seven(answer)) => Binary::walk(g, tables, call, answer),
+            _ => Ok(()),
+        }
     }
 
     fn random_geometry(random: &mut Random) -> Geometry {
@@ -108,7 +115,7 @@ impl Histories for Resume {
     fn begin(g: &Geometry, before: &Tables, first: &Call) -> Option<Course> {
         match first {
             Call::Resume => step::shown(g, before).map(|array| Course::begun(array, true)),
-            Call::Six(first) => {
+            Call::Seven(first) => {
                 Binary::begin(g, before, first).map(|array| Course::begun(array, false))
             }
         }
@@ -129,7 +136,7 @@ impl Histories for Resume {
     fn begun_on(random: &mut Random, g: &Geometry, pool: &Pool, first: &Call) -> Tables {
         match first {
             Call::Resume => generate::tables_of_some_array(random, g, pool),
-            Call::Six(first) => Binary::begun_on(random, g, pool, first),
+            Call::Seven(first) => Binary::begun_on(random, g, pool, first),
         }
     }
 

@@ -20,6 +20,7 @@ pub const OF_HISTORIES: Required = Required {
         ("erase", &["empty", "pattern"]),
         ("read", &["empty", "pattern"]),
         ("first-match", &["none", "at"]),
+        ("next-match", &["no next", "next"]),
         ("all-match", &["no hits", "hits"]),
     ],
     occurs: |_, _| true,

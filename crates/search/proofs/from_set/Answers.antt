@@ -1,4 +1,4 @@
--- `search::first` meets its contract: at each way out of the loop the searches have found what is answered.
+-- `search::from_set` meets its contract: at each way out of the loop the searches have found what is answered.
 use lib.Count.{count_trailing_zeros}
 use Rattle.std.proofs.Common.{ℕ, ◌*◌, ◌+◌, ◌<◌, ◌≡◌, ◌∙◌, arith, rules}
 use Rattle.geometry.specs.Sizes.{row_words}
@@ -8,11 +8,11 @@ use Rattle.geometry.proofs.Bounds.{words-few}
 use Rattle.reference.specs.Search.{seek_word}
 use Rattle.calls.specs.Answers.{tables_in}
 use Rattle.search.proofs.Seeking.{words_from, Named, kind-segmented, kind-other, words-start, words-over, words-on, named, set_found, entries_over, entry_found}
-use Rattle.search.proofs.first.Goals as goal
-use Rattle.search.proofs.first.Goals.{In-Some, Then-word-ne0, After-first, In-Some-at}
+use Rattle.search.proofs.from_set.Goals as goal
+use Rattle.search.proofs.from_set.Goals.{In-Some, Then-word-ne0, After-first, In-Some-at}
 
 pub words-init : goal.words-init
-words-init c = (tt, tt, omega (arith, c.args.tables.now.lent.sized.same-words), omega arith, words-start _ _ _ _ (omega arith))
+words-init c = (tt, tt, omega (arith, c.args.tables.now.lent.sized.same-words), omega arith, words-start _ _ _ _ _ (omega arith))
 
 -- a row has the word that is read, and few enough that no count wraps
 word-inside : (c : In-Some) → c.in-Some.j.0 < row_words c.args.tables.now.layout.geometry
@@ -29,7 +29,7 @@ lowest-set-requires c = word-few (goal.at.lowest-set-requires c).In-Some
 
 -- the search of the row words has come to it
 come : (c : In-Some) → let t = c.args.tables.now in
-    words_from t.layout.geometry (tables_in t) c.args.key c.in-Some.j.0 c.words.words_read ≡ seek_word t.layout.geometry (tables_in t) c.args.key
+    words_from t.layout.geometry (tables_in t) c.args.key c.args.first.0 c.in-Some.j.0 c.words.words_read ≡ seek_word t.layout.geometry (tables_in t) c.args.key c.args.first.0
 come c = rw c.in-Some.ensures.steps.1 c.words.invariant.4
 
 pub words-preserved : goal.words-preserved
@@ -37,14 +37,14 @@ words-preserved c =
     let step = c.in-Some.ensures.steps in
     let at = (goal.at.words-preserved c).In-Some in
     rw (step.2, ← step.1)
-    (tt, tt, step.3 ∙ c.words.invariant.2, omega (arith, c.words.invariant.3), words-on _ _ _ _ _ (come at) _ (word-inside at) (c.joined-word.ensures c.args.tables.now.store.now) c.if-word-ne0.false)
+    (tt, tt, step.3 ∙ c.words.invariant.2, omega (arith, c.words.invariant.3), words-on _ _ _ _ _ _ (come at) _ _ (word-inside at) (c.joined.ensures c.args.tables.now.store.now) c.search_word-word.ensures c.if-word-ne0.false)
 
 -- a row word that is not 0 is read, and its lowest bit is that of set s
-word_read : (c : Then-word-ne0) {s : ℕ} → s ≡ 64 * c.in-Some.j.0 + count_trailing_zeros 64 c.joined-word.result
-    → Named c.args.tables.now.layout.geometry (tables_in c.args.tables.now) c.args.key s (c.words.words_read + 1)
+word_read : (c : Then-word-ne0) {s : ℕ} → s ≡ 64 * c.in-Some.j.0 + count_trailing_zeros 64 c.search_word-word.result
+    → Named c.args.tables.now.layout.geometry (tables_in c.args.tables.now) c.args.key c.args.first.0 s (c.words.words_read + 1)
 word_read c e =
     let at = (goal.at.lowest-set-requires c).In-Some in
-    named _ _ _ _ _ (come at) _ (word-inside at) (c.joined-word.ensures c.args.tables.now.store.now) c.if-word-ne0.true e
+    named _ _ _ _ _ _ (come at) _ _ (word-inside at) (c.joined.ensures c.args.tables.now.store.now) c.search_word-word.ensures c.if-word-ne0.true e
 
 pub address-requires : goal.address-requires
 address-requires c =
@@ -66,7 +66,7 @@ word-requires c =
     omega (arith, c.address-address.ensures, t.lent.entries, address-lt _ (facts _ t.lent.sized.is-valid) _ _ inside.0 inside.1)
 
 pub returns-in_default : goal.returns-in_default
-returns-in_default c = words-over _ _ _ _ _ c.words.invariant.4 (omega (arith, c.in_default.ensures.steps))
+returns-in_default c = words-over _ _ _ _ _ _ c.words.invariant.4 (omega (arith, c.in_default.ensures.steps))
 
 pub returns-then-ne : goal.returns-then-ne
 returns-then-ne c =

@@ -13,7 +13,7 @@ use lib.ListN.{length, get_or-eq_default}
 use borrow.Author.Tests.{leb-true, le-leb, ltb-true, ltb-false, eqb-true, eq-eqb, ne_eqb}
 use Rattle.words.specs.Rules as rule
 use Rattle.words.specs.Rules.{onward, above, First}
-use Rattle.words.proofs.Rules.{both_ways, refuted, any-witness, any-true, none-of-any, count-ext, first-same, onward-here, onward-all, lowest-first, lowest-nowhere, lowest-ext}
+use Rattle.words.proofs.Rules.{both_ways, refuted, any-witness, any-true, none-of-any, count-ext, first-same, onward-here, onward-same, onward-false, onward-all, lowest-first, lowest-nowhere, lowest-ext}
 use Rattle.words.proofs.Bits.{bit_words-ext}
 use Rattle.geometry.specs.declared.Geometry.{Geometry}
 use Rattle.geometry.specs.Valid.{valid, segmented}
@@ -58,11 +58,8 @@ module _ (g : Geometry) (ok : valid g ≡ true) (t : Tables) (mirrors : Mirrors 
   held_from from a = leb from (set_of g a) && held a
 
   not-held-from : (from a : ℕ) → a < g.depth → onward from (indicated g t key) (set_of g a) ≡ false → held_from from a ≡ false
-  not-held-from from a l = go (leb from (set_of g a))
-    where
-      go : (b : Bool) → (b && indicated g t key (set_of g a)) ≡ false → (b && held a) ≡ false
-      go true h = not-held a l h
-      go false h = refl
+  not-held-from from a l h =
+      onward-false (λ s. held a) from (set_of g a) (λ past. not-held a l (sym (onward-same (indicated g t key) from (set_of g a) past) ∙ h))
 
   -- The first offset that has the key, in the first indicated set from one on, is the first address of all from there.
   first-address : (from s o : ℕ) → First (sets g) (onward from (indicated g t key)) s → First (set_length g s) (held_at s) o

@@ -241,6 +241,9 @@ onward-same r i j l = rw (le-leb i j l)
 pub onward-here : (r : ℕ → Bool) (i j : ℕ) → onward i r j ≡ true → (i ≤ j) × (r j ≡ true)
 onward-here r i j h = let p = (and-eq-true_iff _ _).0 h in (leb-true i j p.0, p.1)
 
+pub onward-false : (r : ℕ → Bool) (i j : ℕ) → (i ≤ j → r j ≡ false) → onward i r j ≡ false
+onward-false r i j h = refuted (onward i r j) (λ e. let p = onward-here r i j e in false≢true (sym (h p.0) ∙ p.1))
+
 -- from place 0 on is everywhere
 pub onward-all : (r : ℕ → Bool) (j : ℕ) → onward 0 r j ≡ r j
 onward-all r j = rw (leb-zero j)

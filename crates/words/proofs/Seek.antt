@@ -12,7 +12,7 @@ use borrow.Author.Tests.{ltb-true, ltb-false, le-ltb, leb-true, leb-false, le-le
 use Rattle.words.specs.Rules.{onward, First, Nowhere}
 use Rattle.words.specs.Bits.{bit, bits_from}
 use Rattle.words.specs.Seek.{Sought, found, missed, seek, row_from}
-use Rattle.words.proofs.Rules.{first-same, onward-none, onward-same, onward-here}
+use Rattle.words.proofs.Rules.{first-same, onward-none, onward-same, onward-here, onward-false}
 use Rattle.words.proofs.Bits.{bit-zero, bit-from, from-le, trailing-lowest}
 
 -- What a search of `left` places from `place` on, after `looks` looks, tells by its result.
@@ -46,20 +46,12 @@ pub seek_found : (n place : ℕ) (test : ℕ → Bool) (i looks : ℕ) → seek 
     → First n (onward place test) i × (looks + place ≡ i + 1)
 seek_found n place test i looks e =
     let o : Outcome test (n - place) place 0 (found i looks) = rw e at (seek-outcome test (n - place) place 0) in
-    (record { within = omega arith; here = rw (le-leb place i o.0) o.2; none_before = λ j l. before j (leb place j) refl (λ h. o.3 j h l) }, omega arith)
-  where
-    before : (j : ℕ) (b : Bool) → leb place j ≡ b → (place ≤ j → test j ≡ false) → (b && test j) ≡ false
-    before j true h f = f (leb-true place j h)
-    before j false h f = refl
+    (record { within = omega arith; here = rw (le-leb place i o.0) o.2; none_before = λ j l. onward-false test place j (λ h. o.3 j h l) }, omega arith)
 
 pub seek-missed : (n place : ℕ) (test : ℕ → Bool) (looks : ℕ) → seek test (n - place) place 0 ≡ missed looks → Nowhere n (onward place test) × (looks ≡ n - place)
 seek-missed n place test looks e =
     let o : Outcome test (n - place) place 0 (missed looks) = rw e at (seek-outcome test (n - place) place 0) in
-    (λ j l. at j l (leb place j) refl o.0, omega arith)
-  where
-    at : (j : ℕ) → j < n → (b : Bool) → leb place j ≡ b → ((j : ℕ) → place ≤ j → j < place + (n - place) → test j ≡ false) → (b && test j) ≡ false
-    at j l true h f = let past = leb-true place j h in f j past (omega arith)
-    at j l false h f = refl
+    (λ j l. onward-false test place j (λ h. o.0 j h (omega arith)), omega arith)
 
 -- A search by a loop that counts its looks: a turn, and both ends.
 module _ (test : ℕ → Bool) (n i looks : ℕ) where

@@ -5,14 +5,15 @@
 
 #include "../crates/cam_abi/cam.h"
 
-/* Segmented, with sixteen addresses in sets of four; patterns of three bits, so eight rows, each of one word. */
-enum { KIND = 2, DEPTH = 16, PATTERN_WIDTH = 3, SET_WIDTH = 4, WORDS = 8, MATCH_WORDS = 1 };
+/* Segmented, with fifteen addresses in sets of four, of which the last has three; patterns of three bits, so eight rows, each of one
+ * word. */
+enum { KIND = 2, DEPTH = 15, PATTERN_WIDTH = 3, SET_WIDTH = 4, WORDS = 8, MATCH_WORDS = 1 };
 #define MEMORY KIND, DEPTH, PATTERN_WIDTH, SET_WIDTH, store, DEPTH, indicators, WORDS
 
 static uint32_t store[DEPTH];
 static uint64_t indicators[WORDS], matches[MATCH_WORDS];
 
-/* Whether the memory holds these entries and no others. 5 stands in sets 0, 1 and 3, in set 0 twice. */
+/* Whether the memory holds these entries and no others. 5 stands in sets 0, 1 and 3, in set 0 twice; 14 is the last address. */
 static int filled(void) {
     static const uint32_t entries[][2] = {{14, 5}, {3, 5}, {4, 5}, {1, 5}, {2, 6}, {9, 6}};
     int good = cam_clear(MEMORY) >= CAM_ACCEPTED;

@@ -2,7 +2,8 @@
  * functions that give the lengths of what is lent.
  *
  * GEOMETRY. Four numbers: the kind, 0 for transposed, 1 for cascaded and 2 for segmented; the depth, 1 to 4096; the pattern width,
- * 1 to 12 bits, in kind 1 up to 27; and the set width, which is 1, but in kind 2 any divisor of the depth up to 64.
+ * 1 to 12 bits, in kind 1 up to 27; and the set width, which is 1, but in kind 2 any number from 1 to 64 that is not above the depth.
+ * The depth need not be a multiple of it: the last set has the addresses that are left, and no address from the depth on exists.
  *
  * RESULTS. Below CAM_ACCEPTED a result is the number of a refusal, and then nothing was changed. Any other is CAM_ACCEPTED and
  * the value that stands at each function.
@@ -14,7 +15,8 @@
  *
  * LENGTHS, division rounding down as in C. The last two are what cam_indicator_words and cam_match_words give.
  *
- *     sets        depth / set_width
+ *     sets        (depth + set_width - 1) / set_width        each has set_width addresses, but for the last
+ *     last set    depth - set_width * (sets - 1)             the addresses that are left to it: 1 to set_width
  *     row_words   (sets + 63) / 64                           a bit for every set
  *     stages      1; kind 1: (pattern_width + 8) / 9
  *     rows        1 << pattern_width; kind 1: 512 * (stages - 1) + (1 << (pattern_width - 9 * (stages - 1)))
@@ -98,7 +100,8 @@ uint64_t cam_read(uint32_t kind, uint32_t depth, uint32_t pattern_width, uint32_
 
 /* The lowest address that holds a pattern. The value is the address, or CAM_NONE, + 65,536 times the row words read + 2^32
  * times the entries compared: the three functions below take it apart. Entries are compared in kind 2 alone, a whole set at a
- * time: their number is set_width after a hit there, 0 in the other kinds and with CAM_NONE. */
+ * time: their number is after a hit there how many addresses its set has, so set_width, or less if the last set is shorter; it is 0 in
+ * the other kinds and with CAM_NONE. */
 uint64_t cam_first_match(uint32_t kind, uint32_t depth, uint32_t pattern_width, uint32_t set_width,
                          const uint32_t *store, size_t store_len, const uint64_t *indicators, size_t indicators_len,
                          uint32_t pattern);

@@ -11,10 +11,18 @@ struct memory {
 
 static int valid(uint32_t kind, uint32_t depth, uint32_t width, uint32_t set) {
     if (kind > 2 || depth < 1 || depth > 4096 || width < 1 || width > (kind == 1 ? 27u : 12u)) return 0;
-    return kind == 2 ? set >= 1 && set <= 64 && depth % set == 0 : set == 1;
+    return kind == 2 ? set >= 1 && set <= 64 && set <= depth : set == 1;
 }
 
-static uint32_t row_words(const struct memory *m) { return (m->depth / m->set + 63) / 64; }
+static uint32_t sets(const struct memory *m) { return (m->depth + m->set - 1) / m->set; }
+
+/* The address behind a set. The last set may be shorter than the others. */
+static uint32_t end(const struct memory *m, uint32_t set) {
+    uint32_t next = (set + 1) * m->set;
+    return next < m->depth ? next : m->depth;
+}
+
+static uint32_t row_words(const struct memory *m) { return (sets(m) + 63) / 64; }
 
 static uint32_t stages(const struct memory *m) { return m->kind == 1 ? (m->width + STAGE - 1) / STAGE : 1; }
 
@@ -31,7 +39,7 @@ static uint64_t *row(const struct memory *m, uint32_t pattern, uint32_t k) {
 
 /* Word j of the pattern's row, of kind 1 all its rows joined, without bits that belong to no set. */
 static uint64_t indicated(const struct memory *m, uint32_t pattern, uint32_t j) {
-    uint32_t left = m->depth / m->set - 64 * j;
+    uint32_t left = sets(m) - 64 * j;
     uint64_t word = left < 64 ? (UINT64_C(1) << left) - 1 : UINT64_MAX;
     for (uint32_t k = 0; k < stages(m); k++) word &= row(m, pattern, k)[j];
     return word;
@@ -46,8 +54,8 @@ static uint64_t refusal(const struct memory *m, size_t store_len, size_t rows_le
 }
 
 static int held_beside(const struct memory *m, uint32_t address, uint32_t pattern) {
-    uint32_t first = address / m->set * m->set;
-    for (uint32_t a = first; a < first + m->set; a++)
+    uint32_t set = address / m->set;
+    for (uint32_t a = set * m->set; a < end(m, set); a++)
         if (a != address && m->store[a] == pattern) return 1;
     return 0;
 }
@@ -96,7 +104,7 @@ static int entries_shown(const struct memory *m) {
 
 /* Whether an address of the set holds a pattern that has the row. */
 static int covered(const struct memory *m, const uint64_t *its_row, uint32_t set) {
-    for (uint32_t a = set * m->set; a < (set + 1) * m->set; a++)
+    for (uint32_t a = set * m->set; a < end(m, set); a++)
         for (uint32_t k = 0; k < stages(m) && !(m->store[a] >> m->width); k++)
             if (row(m, m->store[a], k) == its_row) return 1;
     return 0;
@@ -106,7 +114,7 @@ static int covered(const struct memory *m, const uint64_t *its_row, uint32_t set
 static int bits_covered(const struct memory *m, const uint64_t *its_row, uint32_t j) {
     for (uint32_t b = 0; b < 64 && its_row[j] >> b; b++) {
         if (!(its_row[j] >> b & 1)) continue;
-        if (64 * j + b >= m->depth / m->set) return 0;
+        if (64 * j + b >= sets(m)) return 0;
         if (!covered(m, its_row, 64 * j + b)) return 0;
     }
     return 1;
@@ -158,30 +166,30 @@ uint64_t cam_first_match(FOUR, READ, uint32_t pattern) {
         if (word == 0) continue;
         uint32_t set = 0;
         while (!(word >> set & 1)) set++;
-        uint32_t first = (64 * j + set) * set_width;
+        uint32_t first = (64 * j + set) * set_width, length = end(&m, 64 * j + set) - first;
         if (kind != 2) return found(first, j + 1, 0);
-        for (uint32_t i = 0; i < set_width; i++)
-            if (store[first + i] == pattern) return found(first + i, j + 1, set_width);
+        for (uint32_t i = 0; i < length; i++)
+            if (store[first + i] == pattern) return found(first + i, j + 1, length);
         return CAM_FALSE_SET;
     }
     return found(CAM_NONE, last, 0);
 }
 
-/* The lowest address that holds the pattern, of those from one up to another; CAM_NONE if none does. */
-static uint32_t lowest(const struct memory *m, uint32_t from, uint32_t end, uint32_t pattern) {
-    for (uint32_t a = from; a < end; a++)
+/* The lowest address that holds the pattern, of those from one to before another; CAM_NONE if none does. */
+static uint32_t lowest(const struct memory *m, uint32_t from, uint32_t behind, uint32_t pattern) {
+    for (uint32_t a = from; a < behind; a++)
         if (m->store[a] == pattern) return a;
     return CAM_NONE;
 }
 
 uint64_t cam_next_match(FOUR, READ, uint32_t address, uint32_t pattern) {
     BEGIN(address, pattern);
-    uint32_t own = address / set_width, at = lowest(&m, address + 1, (own + 1) * set_width, pattern);
+    uint32_t own = address / set_width, at = lowest(&m, address + 1, end(&m, own), pattern);
     if (at != CAM_NONE) return found(at, 0, 0);
-    for (uint32_t s = own + 1; s < depth / set_width; s++) {
+    for (uint32_t s = own + 1; s < sets(&m); s++) {
         if (!(indicated(&m, pattern, s / 64) >> s % 64 & 1)) continue;
         if (kind != 2) return found(s, 0, 0);
-        at = lowest(&m, s * set_width, (s + 1) * set_width, pattern);
+        at = lowest(&m, s * set_width, end(&m, s), pattern);
         return at == CAM_NONE ? CAM_FALSE_SET : found(at, 0, 0);
     }
     return found(CAM_NONE, 0, 0);
@@ -190,7 +198,7 @@ uint64_t cam_next_match(FOUR, READ, uint32_t address, uint32_t pattern) {
 /* The addresses of a set that hold the pattern, marked in the match word if there is one. */
 static uint32_t mark(const struct memory *m, uint32_t set, uint32_t pattern, uint64_t *matches) {
     uint32_t hits = 0;
-    for (uint32_t a = set * m->set; a < (set + 1) * m->set; a++) {
+    for (uint32_t a = set * m->set; a < end(m, set); a++) {
         if (m->kind == 2 && m->store[a] != pattern) continue;
         if (matches) matches[a / 64] |= UINT64_C(1) << a % 64;
         hits++;
@@ -203,10 +211,10 @@ uint64_t cam_all_match(FOUR, READ, uint64_t *matches, size_t matches_len, uint32
     if (matches_len != (depth + 63) / 64) return CAM_BAD_LENGTHS;
     if (pattern >> pattern_width) return CAM_BAD_PATTERN;
     uint64_t hits = 0;
-    for (uint32_t s = 0; s < depth / set_width; s++)
+    for (uint32_t s = 0; s < sets(&m); s++)
         if (indicated(&m, pattern, s / 64) >> s % 64 & 1 && mark(&m, s, pattern, 0) == 0) return CAM_FALSE_SET;
     for (size_t i = 0; i < matches_len; i++) matches[i] = 0;
-    for (uint32_t s = 0; s < depth / set_width; s++)
+    for (uint32_t s = 0; s < sets(&m); s++)
         if (indicated(&m, pattern, s / 64) >> s % 64 & 1) hits += mark(&m, s, pattern, matches);
     return CAM_ACCEPTED + hits;
 }

@@ -7,9 +7,11 @@
 #define READ_TABLES const uint32_t *store, size_t entries, const uint64_t *indicators, size_t words
 #define UNUSED (void)kind, (void)depth, (void)width, (void)set, (void)entries, (void)indicators, (void)words
 
+static uint32_t sets(uint32_t depth, uint32_t set) { return (depth + set - 1) / set; }
+
 #ifdef STALE
 static void mark(SHAPE, uint64_t *indicators, uint32_t address, uint32_t pattern) {
-    uint32_t row_words = (depth / set + 63) / 64, own = address / set;
+    uint32_t row_words = (sets(depth, set) + 63) / 64, own = address / set;
     uint32_t stages = kind == 1 ? (width + 8) / 9 : 1;
     for (uint32_t k = 0; k < stages; k++) {
         uint32_t row = kind == 1 ? 512 * k + (pattern >> (9 * k)) % 512 : pattern;
@@ -78,11 +80,12 @@ uint64_t cam_first_match(SHAPE, READ_TABLES, uint32_t pattern) {
     }
     for (uint32_t a = 0; a < depth; a++) {
         if (store[a] == pattern) {
-            uint64_t w = a / (64 * set) + 1, c = kind == 2 ? set : 0;
+            uint32_t first = a / set * set, end = first + set < depth ? first + set : depth;
+            uint64_t w = a / (64 * set) + 1, c = kind == 2 ? end - first : 0;
             return CAM_ACCEPTED + a + (w << 16) + (c << 32);
         }
     }
-    return CAM_ACCEPTED + CAM_NONE + ((uint64_t)(depth / set + 63) / 64 << 16);
+    return CAM_ACCEPTED + CAM_NONE + ((uint64_t)(sets(depth, set) + 63) / 64 << 16);
 }
 
 uint64_t cam_next_match(SHAPE, READ_TABLES, uint32_t address, uint32_t pattern) {

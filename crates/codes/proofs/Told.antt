@@ -12,9 +12,9 @@ use Rattle.machines.specs.Refusals.{first_refusal, Passed}
 use Rattle.machines.proofs.Refusals.{Each, given-says, passes}
 use Rattle.geometry.specs.declared.Geometry.{Geometry}
 use Rattle.geometry.specs.Valid.{valid}
-use Rattle.geometry.specs.Sizes.{sets, row_words, set_of, address_of, set_length}
+use Rattle.geometry.specs.Sizes.{row_words, set_of, address_of, set_length}
 use Rattle.geometry.proofs.Facts.{Facts, facts, patterns-most}
-use Rattle.geometry.proofs.Places.{set-lt, address-lt}
+use Rattle.geometry.proofs.Places.{address-lt}
 use Rattle.geometry.proofs.Bounds.{sets-few, words-few}
 use Rattle.reference.specs.Entry.{Entry, empty, pattern, word_of, Fits}
 use Rattle.reference.specs.Calls.{Call, clear, write, erase, read, first_match, next_match, all_match, Answer, held, next}
@@ -24,7 +24,6 @@ use Rattle.reference.specs.Statements.{FirstOnAny, NextOnAny, own-entry}
 use Rattle.reference.specs.Steps.{own_refusals, refusals, accepted, outcome, step}
 use Rattle.reference.specs.Resume.{resume_refusals, resume_step}
 use Rattle.reference.proofs.Entries.{word_fits}
-use Rattle.reference.proofs.Limits.{address-passes}
 use Rattle.reference.proofs.Refused.{passed-valid, passed-lengths}
 use Rattle.reference.proofs.Searched.{first_any, next_any}
 use Rattle.codes.specs.Codes.{code_of, entry_in, place_in, value_told, told, resume_code, resume_told}
@@ -55,8 +54,8 @@ module _ (g : Geometry) (ok : valid g ≡ true) where
   entry-told empty h = refl
   entry-told (pattern p) h = rw (ne_eqb p 4294967295 (λ e. omega (arith, h p refl, patterns-most g f)))
 
-  entry-few : (s o : ℕ) → s < sets g → o < set_length g s → address_of g s o < 65535
-  entry-few s o inside within = omega (arith, address-lt g f s o inside within, f.depth-most)
+  entry-few : (s o : ℕ) → o < set_length g s → address_of g s o < 65535
+  entry-few s o within = omega (arith, address-lt g f s o within, f.depth-most)
 
   -- no address and no count of words is too large for its field
   first-told : (t : Tables) (key : ℕ) (x : Answer) (m : List ℕ) → FirstOnAny g t key x → told (first_match key) (code_of x) m ≡ x
@@ -65,7 +64,7 @@ module _ (g : Geometry) (ok : valid g ≡ true) where
       let few : s < 4096 = omega (arith, first.within, sets-few g f) in
       rw is (place-told key s (s / 64 + 1) 0 m (omega (arith, few)) (omega (arith, few)) ∙ rw (ne_eqb s 65535 (λ e. omega (arith, few))))
   first-told t key x m (FirstOnAny.equal-entry s o first kind equal is) =
-      let few : address_of g s o < 65535 = entry-few s o first.within equal.within in
+      let few : address_of g s o < 65535 = entry-few s o equal.within in
       rw is
       (place-told key (address_of g s o) (s / 64 + 1) (set_length g s) m (omega (arith, few)) (omega (arith, first.within, sets-few g f))
       ∙ rw (ne_eqb (address_of g s o) 65535 (λ e. omega (arith, few))))
@@ -76,15 +75,15 @@ module _ (g : Geometry) (ok : valid g ≡ true) where
   unfolding value_told
   address-told a key b m few = value-told (next_match a key) _ b m refl ∙ rw (ne_eqb b 65535 (λ e. omega (arith, few)))
 
-  next-told : (t : Tables) (a key : ℕ) (x : Answer) (m : List ℕ) → a < g.depth → NextOnAny g t a key x → told (next_match a key) (code_of x) m ≡ x
+  next-told : (t : Tables) (a key : ℕ) (x : Answer) (m : List ℕ) → NextOnAny g t a key x → told (next_match a key) (code_of x) m ≡ x
   unfolding value_told
-  next-told t a key x m inside (own-entry o kind first is) =
-      rw is (address-told a key _ m (entry-few (set_of g a) o (set-lt g f a inside) first.within))
-  next-told t a key x m inside (NextOnAny.no-set own nowhere is) = rw is (value-told (next_match a key) _ 65535 m refl)
-  next-told t a key x m inside (NextOnAny.set-alone own s first kind is) = rw is (address-told a key s m (omega (arith, first.within, sets-few g f)))
-  next-told t a key x m inside (NextOnAny.equal-entry own s o first kind equal is) =
-      rw is (address-told a key _ m (entry-few s o first.within equal.within))
-  next-told t a key x m inside (NextOnAny.no-equal own s first none_equal is) = unfold told in rw is
+  next-told t a key x m (own-entry o kind first is) =
+      rw is (address-told a key _ m (entry-few (set_of g a) o first.within))
+  next-told t a key x m (NextOnAny.no-set own nowhere is) = rw is (value-told (next_match a key) _ 65535 m refl)
+  next-told t a key x m (NextOnAny.set-alone own s first kind is) = rw is (address-told a key s m (omega (arith, first.within, sets-few g f)))
+  next-told t a key x m (NextOnAny.equal-entry own s o first kind equal is) =
+      rw is (address-told a key _ m (entry-few s o equal.within))
+  next-told t a key x m (NextOnAny.no-equal own s first none_equal is) = unfold told in rw is
 
   held-told : (t : Tables) (c : Call (List ℕ)) (a : ℕ) (m : List ℕ) → ((v : ℕ) → value_told c v m ≡ held (entry_in v))
       → told c (code_of (held (stored_entry g t a))) m ≡ held (stored_entry g t a)
@@ -98,9 +97,7 @@ module _ (g : Geometry) (ok : valid g ≡ true) where
   accepted-told t long (erase a) p = held-told t (erase a) a [] (λ v. refl)
   accepted-told t long (read a) p = held-told t (read a) a [] (λ v. refl)
   accepted-told t long (first_match key) p = first-told t key _ [] (first_any g ok t long key)
-  accepted-told t long (next_match a key) p =
-      let inside = (address-passes g a).0 p.0 in
-      next-told t a key _ [] inside (next_any g t a key ok long inside)
+  accepted-told t long (next_match a key) p = next-told t a key _ [] (next_any g t a key ok long)
   accepted-told t long (all_match key m) p = value-told (all_match key m) _ _ (taken_words g t key) refl
 
 -- every refusal is below 256

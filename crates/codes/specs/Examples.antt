@@ -64,9 +64,11 @@ sizes =
     ∷ size (four 2 8 2 2) 260 257
     ∷ size (four 2 130 12 2) 8448 259
     ∷ size (four 2 4096 12 64) 4352 320
+    ∷ size (four 2 9 2 2) 260 257
+    ∷ size (four 2 129 1 2) 260 259
     ∷ size (four 0 4097 12 1) 1 1
     ∷ size (four 1 4096 28 1) 1 1
-    ∷ size (four 2 9 2 2) 1 1
+    ∷ size (four 2 8 2 9) 1 1
     ∷ size (four 2 8 2 0) 1 1
     ∷ size (four 3 8 2 2) 1 1
     ∷ []

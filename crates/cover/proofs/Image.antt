@@ -1,5 +1,5 @@
 -- Every bit of an image; and when the entry of an address comes to cover other rows, the image becomes that of the new cover.
-use Prim.Native.Nat.{ℕ, ◌+◌, ◌*◌, ◌/◌, ◌%◌, ◌<◌}
+use Prim.Native.Nat.{ℕ, ◌+◌, ◌*◌, ◌/◌, ◌%◌, ◌<◌, ◌≤◌}
 use mathlib.Core.Path.{◌≡◌, refl, sym, ap, ◌∙◌}
 use mathlib.Core.Bool.{Bool, true, false, cond, not, ◌&&◌, ◌||◌, and-eq-true_iff, and-false, false≢true}
 use mathlib.Core.List.{List}
@@ -15,7 +15,7 @@ use Rattle.geometry.specs.declared.Geometry.{Geometry}
 use Rattle.geometry.specs.Sizes.{sets, row_words, set_of, offset_of, address_of, set_length}
 use Rattle.geometry.specs.Stages.{rows, indicator_words}
 use Rattle.geometry.proofs.Facts.{Facts}
-use Rattle.geometry.proofs.Places.{offset-lt, address-of, set-of, offset-of, place-lt, row-of-place, word-of-place, place_of, row_lt, word_lt, word-lt-row}
+use Rattle.geometry.proofs.Places.{length-past, offset-lt, address-of, set-of, offset-of, place-lt, row-of-place, word-of-place, place_of, row_lt, word_lt, word-lt-row}
 use Rattle.cover.specs.Image.{Cover, cell, belongs, covered, image}
 use Rattle.cover.specs.Change.{others_cover, moved}
 use Rattle.cover.proofs.Moved.{length_moved, moved-cell}
@@ -39,6 +39,14 @@ module _ (g : Geometry) (f : Facts g) (cover : Cover) where
   image-cell r j b hr hj =
       ap (λ w. bit w b) (get_or-tabulate (indicator_words g) _ (row_words g * r + j) 0 (place-lt g f r j hr hj))
       ∙ rw (row-of-place g f r j hj, word-of-place g f r j hj) (bit-word-all 64 (λ b. covered g cover r (64 * j + b)) b)
+
+  -- past the last set nothing is covered, so padding bits of the image are 0 (rule 6.3 of docs/MEMORY.md)
+  pub uncovered : (r s : ℕ) → sets g ≤ s → covered g cover r s ≡ false
+  unfolding covered
+  uncovered r s past = rw (length-past g f s past) (any_false 0 _ (λ o l. absurd (omega arith)))
+
+  pub image-padding : (r j b : ℕ) → r < rows g → j < row_words g → sets g ≤ 64 * j + b → cell g (image g cover) r j b ≡ false
+  image-padding r j b hr hj past = image-cell r j b hr hj ∙ rw (uncovered r (64 * j + b) past) (and-false (ltb b 64))
 
   -- those of sets
   pub image-bit : (r s : ℕ) → r < rows g → s < sets g → cell g (image g cover) r (s / 64) (s % 64) ≡ covered g cover r s

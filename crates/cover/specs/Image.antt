@@ -22,8 +22,7 @@ belongs s j b = eqb j (s / 64) && eqb b (s % 64)
 unfoldable pub covered : Geometry → Cover → (row set : ℕ) → Bool
 covered g cover r s = any (set_length g s) (λ o. cover (address_of g s o) r)
 
--- Word m is word m mod R of row m / R (rule 3.4). Where past the last set no address covers anything, padding bits are 0
--- (rule 6.3).
+-- Word m is word m mod R of row m / R (rule 3.4). Past the last set there is no address, so that padding bits are 0 (rule 6.3).
 unfoldable pub image : Geometry → Cover → List ℕ
 image g cover =
     tabulate (indicator_words g) (λ m. word 64 (λ b. covered g cover (m / row_words g) (64 * (m % row_words g) + b)))

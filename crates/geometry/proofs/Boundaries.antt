@@ -28,7 +28,9 @@ boundaries =
     ∷ rule 1 2 0 1 false ∷ rule 1 2 28 1 false ∷ rule 1 2 10 0 false ∷ rule 1 2 10 2 false
     ∷ rule 2 1 1 1 true ∷ rule 2 4096 12 64 true ∷ rule 2 0 12 1 false ∷ rule 2 4097 12 1 false
     ∷ rule 2 8 0 2 false ∷ rule 2 8 13 2 false ∷ rule 2 8 2 0 false ∷ rule 2 130 2 65 false
-    ∷ rule 2 9 2 2 false ∷ rule 2 9 2 3 true ∷ rule 2 8 2 16 false ∷ rule 3 8 2 2 false ∷ []
+    ∷ rule 2 9 2 3 true ∷ rule 2 9 2 2 true ∷ rule 2 8 2 8 true ∷ rule 2 8 2 9 false ∷ rule 2 8 2 16 false
+    ∷ rule 2 1000 1 64 true ∷ rule 2 65 12 64 true ∷ rule 2 64 12 64 true ∷ rule 2 63 12 64 false ∷ rule 2 5 2 2 true
+    ∷ rule 2 129 1 2 true ∷ rule 2 4096 12 63 true ∷ rule 3 8 2 2 false ∷ []
 
 pub boundaries-hold : map (λ (r : Rule). valid r.geometry) boundaries ≡ map (λ (r : Rule). r.expected) boundaries
 unfolding valid kind_rule
@@ -63,7 +65,13 @@ sizes =
     ∷ size (four 2 8 2 2) 4 1 1 1 4 4 (2 ∷ 2 ∷ []) (3 ∷ [])
     ∷ size (four 2 128 12 2) 64 1 2 1 4096 4096 (2 ∷ 2 ∷ []) (4095 ∷ [])
     ∷ size (four 2 130 12 2) 65 2 3 1 4096 8192 (2 ∷ 2 ∷ []) (4095 ∷ [])
-    ∷ size (four 2 4096 12 64) 64 1 64 1 4096 4096 (64 ∷ 64 ∷ []) (4095 ∷ []) ∷ []
+    ∷ size (four 2 4096 12 64) 64 1 64 1 4096 4096 (64 ∷ 64 ∷ []) (4095 ∷ [])
+    ∷ size (four 2 8 2 8) 1 1 1 1 4 4 (8 ∷ 8 ∷ []) (3 ∷ [])
+    ∷ size (four 2 5 2 2) 3 1 1 1 4 4 (2 ∷ 1 ∷ []) (3 ∷ [])
+    ∷ size (four 2 65 12 64) 2 1 2 1 4096 4096 (64 ∷ 1 ∷ []) (4095 ∷ [])
+    ∷ size (four 2 129 1 2) 65 2 3 1 2 4 (2 ∷ 1 ∷ []) (1 ∷ [])
+    ∷ size (four 2 1000 1 64) 16 1 16 1 2 2 (64 ∷ 40 ∷ []) (1 ∷ [])
+    ∷ size (four 2 4096 12 63) 66 2 64 1 4096 8192 (63 ∷ 1 ∷ []) (4095 ∷ []) ∷ []
 
 pub sizes-hold : map (λ (r : Size). sizes_of r.geometry) sizes ≡ map (λ (r : Size). r.expected) sizes
 unfolding sets row_words match_words set_length stages stage_width stage row_of rows_of rows indicator_words tabulate

@@ -3,7 +3,7 @@ use Prim.Native.Nat.{ℕ, ◌+◌, ◌-◌, ◌*◌, ◌^◌, ◌<◌, ◌≤◌
 use mathlib.Core.Path.{◌≡◌}
 use mathlib.Core.Bool.{Bool, true, false, cond}
 use mathlib.Core.Logic.{◌⊎◌, inl, inr}
-use native.Mathlib.Nat.{div-le_self, mul-le-mul_right}
+use native.Mathlib.Nat.{mul-le-mul_right}
 use native.Mathlib.Omega.{arith}
 use lib.Dec.{ltb}
 use lib.Pow.{pow_mono}
@@ -11,12 +11,12 @@ use Rattle.geometry.specs.declared.Geometry.{Geometry}
 use Rattle.geometry.specs.Sizes.{sets, row_words}
 use Rattle.geometry.specs.Stages.{stages, stage_width, stage, row_of, rows, indicator_words}
 use Rattle.geometry.proofs.Facts.{Facts}
+use Rattle.geometry.proofs.Places.{set-begins, sets-pos}
 use Rattle.geometry.proofs.Stages.{stages-pos, stage-lt, row_lt}
 
 module _ (g : Geometry) (f : Facts g) where
   pub sets-few : sets g ≤ 4096
-  unfolding sets
-  sets-few = omega (arith, div-le_self g.depth g.set_width)
+  sets-few = omega (arith, f.set-pos, set-begins g f (sets g - 1) (omega (arith, sets-pos g f)), mul-le-mul_right (sets g - 1) f.set-pos)
 
   pub words-few : row_words g ≤ 64
   unfolding row_words

@@ -1,9 +1,9 @@
 -- What a geometry that is not refused gives, once for all that cite it.
-use Prim.Native.Nat.{ℕ, ◌+◌, ◌*◌, ◌%◌, ◌<◌, ◌≤◌}
+use Prim.Native.Nat.{ℕ, ◌+◌, ◌-◌, ◌*◌, ◌%◌, ◌<◌, ◌≤◌}
 use mathlib.Core.Path.{◌≡◌, refl, sym, ◌∙◌}
 use mathlib.Core.Logic.{◌⊎◌, inl, inr}
 use mathlib.Core.Bool.{Bool, true, false, cond, ◌&&◌, and-eq-true_iff, and-false, true≢false, false≢true}
-use native.Mathlib.Nat.{div-add-mod, mod-one, lt_of_le_of_lt, lt_of_not-le}
+use native.Mathlib.Nat.{div-add-mod, mod-lt, lt_of_le_of_lt, lt_of_not-le}
 use native.Mathlib.Omega.{arith}
 use lib.Dec.{eqb, leb, lit<, lit≤}
 use lib.Pow.{pow_mono}
@@ -20,8 +20,9 @@ pub record Facts (g : Geometry) : Type 0 where
   pub width-most : g.pattern_width ≤ 27
   pub set-pos : 1 ≤ g.set_width
   pub set-most : g.set_width ≤ 64
-  -- the sets fill the depth
-  pub filled : g.set_width * sets g ≡ g.depth
+  -- the sets reach to the depth, and the last one begins below it
+  pub reached : g.depth ≤ g.set_width * sets g
+  pub needed : g.set_width * sets g < g.depth + g.set_width
   -- only a kind with one stage has sets of more than one address
   pub single : (g.set_width ≡ 1) ⊎ (stages g ≡ 1)
   -- only the segmented kind has sets of more than one address
@@ -36,21 +37,28 @@ range low high n e =
 
 module _ (g : Geometry) (deep : (1 ≤ g.depth) × (g.depth ≤ 4096)) where
   made : (1 ≤ g.pattern_width) × (g.pattern_width ≤ 27) → (1 ≤ g.set_width) × (g.set_width ≤ 64)
-      → g.depth % g.set_width ≡ 0 → (g.set_width ≡ 1) ⊎ (stages g ≡ 1) → (eqb g.kind segmented ≡ false → g.set_width ≡ 1) → Facts g
+      → (g.set_width ≡ 1) ⊎ (stages g ≡ 1) → (eqb g.kind segmented ≡ false → g.set_width ≡ 1) → Facts g
   unfolding stages sets
-  made w s whole single alone = record {
+  made w s single alone = record {
     depth_pos = deep.0;
     depth-most = deep.1;
     width-pos = w.0;
     width-most = w.1;
     set-pos = s.0;
     set-most = s.1;
-    filled = omega (arith, div-add-mod g.depth g.set_width);
+    reached = omega (arith, whole, rest);
+    needed = omega (arith, whole);
     single = single;
     alone = alone;
     staged = cut (eqb g.kind cascaded);
   }
     where
+      whole : g.set_width * rounded_up g.depth g.set_width + (g.depth + (g.set_width - 1)) % g.set_width ≡ g.depth + (g.set_width - 1)
+      whole = div-add-mod (g.depth + (g.set_width - 1)) g.set_width
+
+      rest : (g.depth + (g.set_width - 1)) % g.set_width < g.set_width
+      rest = mod-lt _ s.0
+
       cut : (c : Bool) → let n = cond c (rounded_up g.pattern_width 9) 1 in (n ≡ 1) ⊎ (9 * n < g.pattern_width + 9)
       cut true = inr (omega arith)
       cut false = inl refl
@@ -61,7 +69,7 @@ module _ (g : Geometry) (deep : (1 ≤ g.depth) × (g.depth ≤ 4096)) where
       let r = (and-eq-true_iff (between 1 most g.pattern_width) (eqb g.set_width 1)).0 e in
       let w = range 1 most g.pattern_width r.0 in
       let one : g.set_width ≡ 1 = eqb-true _ _ r.1 in
-      made (omega arith) (omega arith) (rw one (mod-one g.depth)) (inl one) (λ _. one)
+      made (omega arith) (omega arith) (inl one) (λ _. one)
 
   -- t, c and s are the tests for the three kinds
   kinds : (t c s : Bool) → eqb g.kind cascaded ≡ c → eqb g.kind segmented ≡ s
@@ -74,9 +82,9 @@ module _ (g : Geometry) (deep : (1 ≤ g.depth) × (g.depth ≤ 4096)) where
   kinds false true s ec es e = plain 27 (lit≤ tt) e
   kinds false false true ec es e =
       let r = (and-eq-true_iff (between 1 12 g.pattern_width) (segmented_rule g.depth g.set_width)).0 e in
-      let q = (and-eq-true_iff (between 1 64 g.set_width) (eqb (g.depth % g.set_width) 0)).0 r.1 in
+      let q = (and-eq-true_iff (between 1 64 g.set_width) _).0 r.1 in
       let w = range 1 12 g.pattern_width r.0 in
-      made (omega arith) (range 1 64 g.set_width q.0) (eqb-true _ _ q.1) (inr (rw ec)) (λ n. absurd (true≢false (sym es ∙ n)))
+      made (omega arith) (range 1 64 g.set_width q.0) (inr (rw ec)) (λ n. absurd (true≢false (sym es ∙ n)))
   kinds false false false ec es e = absurd (false≢true e)
 
 pub facts : (g : Geometry) → valid g ≡ true → Facts g

@@ -1,9 +1,9 @@
 -- Addresses, sets and offsets, and where the bit of a row and a set stands.
-use Prim.Native.Nat.{ℕ, ◌+◌, ◌*◌, ◌/◌, ◌%◌, ◌<◌, ◌≤◌}
+use Prim.Native.Nat.{ℕ, suc, ◌+◌, ◌-◌, ◌*◌, ◌/◌, ◌%◌, ◌<◌, ◌≤◌}
 use mathlib.Core.Path.{◌≡◌, sym, ◌∙◌}
 use mathlib.Core.Bool.{false, ◌&&◌}
 use mathlib.Core.Logic.{◌⊎◌, inl, inr}
-use native.Mathlib.Nat.{le_of_suc-le-suc, eq-or-lt_of_le, mod-lt, div-one, mul_comm, mul-le-mul_left, div-add-mod, div-lt_iff_lt-mul, div-div-eq-div-mul, lt_of_lt_of_le, div-mul-le_self}
+use native.Mathlib.Nat.{le_of_suc-le-suc, eq-or-lt_of_le, mod-lt, div-one, mul_comm, mul-suc, mul-le-mul_left, div-add-mod, div-lt_iff_lt-mul, div-div-eq-div-mul, lt_of_lt_of_le, div-mul-le_self}
 use native.Mathlib.Omega.{arith}
 use lib.Dec.{eqb}
 use lib.Arith.{digits_lt, digits_div, digits_mod}
@@ -16,17 +16,37 @@ use Rattle.geometry.proofs.Facts.{Facts}
 
 module _ (g : Geometry) (f : Facts g) where
   pub set-lt : (a : ℕ) → a < g.depth → set_of g a < sets g
-  set-lt a h = (div-lt_iff_lt-mul f.set-pos).1 (omega arith)
+  set-lt a h = (div-lt_iff_lt-mul f.set-pos).1 (omega (arith, f.reached))
+
+  -- every set begins with an address
+  pub set-begins : (s : ℕ) → s < sets g → g.set_width * s < g.depth
+  set-begins s h = omega (arith, mul-le-mul_left g.set_width h, mul-suc g.set_width s, f.needed)
 
   -- a set has 64 addresses at most
   pub length_most : (s : ℕ) → set_length g s ≤ 64
   unfolding set_length
-  length_most s = f.set-most
+  length_most s = omega (arith, f.set-most)
 
   -- and no set is empty
   pub length-pos : (s : ℕ) → s < sets g → 0 < set_length g s
   unfolding set_length
-  length-pos s h = f.set-pos
+  length-pos s h = omega (arith, f.set-pos, set-begins s h)
+
+  -- the last set has what the others leave of the depth, and each of these has as many as the set width says
+  pub last-set-length : set_length g (sets g - 1) ≡ g.depth - g.set_width * (sets g - 1)
+  unfolding set_length
+  last-set-length =
+      let last : sets g ≤ suc (sets g - 1) = omega arith in
+      omega (arith, f.reached, mul-le-mul_left g.set_width last, mul-suc g.set_width (sets g - 1))
+
+  pub full-set-length : (s : ℕ) → s + 1 < sets g → set_length g s ≡ g.set_width
+  unfolding set_length
+  full-set-length s h = omega (arith, mul-suc g.set_width s, set-begins (suc s) (omega arith))
+
+  -- past the last set there is no address
+  pub length-past : (s : ℕ) → sets g ≤ s → set_length g s ≡ 0
+  unfolding set_length
+  length-past s h = omega (arith, f.reached, mul-le-mul_left g.set_width h)
 
   -- only the segmented kind has sets of more than one address
   pub length-alone : (s : ℕ) → eqb g.kind segmented ≡ false → set_length g s ≤ 1
@@ -44,15 +64,11 @@ module _ (g : Geometry) (f : Facts g) where
 
   pub offset-lt : (a : ℕ) → a < g.depth → offset_of g a < set_length g (set_of g a)
   unfolding set_length
-  offset-lt a h = mod-lt a f.set-pos
+  offset-lt a h = omega (arith, mod-lt a f.set-pos, div-add-mod a g.set_width)
 
-  pub address-lt : (s o : ℕ) → s < sets g → o < set_length g s → address_of g s o < g.depth
+  pub address-lt : (s o : ℕ) → o < set_length g s → address_of g s o < g.depth
   unfolding set_length
-  address-lt s o hs ho = omega (arith, digits_lt hs ho)
-
-  -- past the last set there is no address
-  pub address-past : (s o : ℕ) → sets g ≤ s → g.depth ≤ address_of g s o
-  address-past s o h = omega (arith, mul-le-mul_left g.set_width h)
+  address-lt s o h = omega arith
 
   pub address-of : (a : ℕ) → address_of g (set_of g a) (offset_of g a) ≡ a
   address-of a = div-add-mod a g.set_width
@@ -60,7 +76,7 @@ module _ (g : Geometry) (f : Facts g) where
   -- an offset of any set is below the set width, by which addresses are numbered
   offset-width : (s o : ℕ) → o < set_length g s → o < g.set_width
   unfolding set_length
-  offset-width s o h = h
+  offset-width s o h = omega arith
 
   pub set-of : (s o : ℕ) → o < set_length g s → set_of g (address_of g s o) ≡ s
   set-of s o h = rw mul_comm (digits_div s (offset-width s o h))

@@ -1,6 +1,6 @@
 -- The sizes that follow from a geometry, and the one rule between an address, its set and its offset in the set (docs/MEMORY.md,
 -- sections 2 and 3).
-use Rattle.std.specs.Prelude.{ℕ, ◌+◌, ◌-◌, ◌*◌, ◌/◌, ◌%◌, ◌^◌}
+use Rattle.std.specs.Prelude.{ℕ, ◌+◌, ◌-◌, ◌*◌, ◌/◌, ◌%◌, ◌^◌, min}
 use Rattle.geometry.specs.declared.Geometry.{Geometry}
 
 -- n / d, rounded up.
@@ -13,7 +13,7 @@ patterns g = 2 ^ g.pattern_width
 
 -- C (rule 2.6).
 unfoldable pub sets : Geometry → ℕ
-sets g = g.depth / g.set_width
+sets g = rounded_up g.depth g.set_width
 
 -- R, the words of a row: a bit for each set (rule 3.4).
 unfoldable pub row_words : Geometry → ℕ
@@ -33,6 +33,6 @@ offset_of g a = a % g.set_width
 abbrev pub address_of : Geometry → (set offset : ℕ) → ℕ
 address_of g s o = g.set_width * s + o
 
--- How many addresses a set has: its offsets are the numbers below this one (rule 2.4).
+-- How many addresses a set has: its offsets are the numbers below this one. The last set has those that are left (rule 2.7).
 unfoldable pub set_length : Geometry → (set : ℕ) → ℕ
-set_length g s = g.set_width
+set_length g s = min g.set_width (g.depth - g.set_width * s)

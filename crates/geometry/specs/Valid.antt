@@ -1,5 +1,5 @@
 -- Which four numbers are a geometry (docs/MEMORY.md, section 2).
-use Rattle.std.specs.Prelude.{ℕ, ◌%◌, Bool, false, cond, ◌&&◌, leb, eqb}
+use Rattle.std.specs.Prelude.{ℕ, Bool, false, cond, ◌&&◌, leb, eqb}
 use Rattle.geometry.specs.declared.Geometry.{Geometry}
 
 -- The kinds (rule 2.2).
@@ -15,9 +15,9 @@ segmented = 2
 abbrev pub between : ℕ → ℕ → ℕ → Bool
 between low high n = leb low n && leb n high
 
--- The segmented kind's set width (rule 2.4). A width of 0 fails before its remainder counts.
+-- The segmented kind's set width (rule 2.4).
 abbrev pub segmented_rule : (depth set : ℕ) → Bool
-segmented_rule depth set = between 1 64 set && eqb (depth % set) 0
+segmented_rule depth set = between 1 64 set && leb set depth
 
 -- What a kind asks of the depth and both widths (rules 2.3 and 2.4).
 unfoldable pub kind_rule : (kind depth width set : ℕ) → Bool

@@ -155,7 +155,7 @@ impl SetIndex {
         SetIndex(0)
     }
 
-    // The set after it, which the last set has not: then its number is none's. That it is a set itself is shown as for `address`.
+    // The set after it, which the last set has not: then its number is none's. That it is a set itself is shown as for `length`.
     pub fn next(self, layout: Layout) -> Self
         requires { self.0 < sets layout.geometry }
         ensures { result.0 ≡ self.0 + 1 }
@@ -179,17 +179,19 @@ impl SetIndex {
         SetIndex(64 * at.0 as u32 + word.trailing_zeros())
     }
 
-    // How many addresses it has. That it is a set of the geometry is shown as for `address`.
+    // How many addresses it has, the last set those that are left. Who asks shows that it is a set: padding is dropped.
     pub fn length(self, layout: Layout) -> SetLength
         requires { self.0 < sets layout.geometry }
         ensures { result.0 ≡ set_length layout.geometry self.0 }
     {
-        SetLength(layout.geometry.set_width as u16)
+        let g = layout.geometry;
+        let left = g.depth - g.set_width * self.0;
+        SetLength(g.set_width.min(left) as u16)
     }
 
-    // Its address at an offset. Who asks shows that it is a set: padding is dropped. The offsets are those of its length.
+    // Its address at an offset. The offsets are those of its length.
     pub fn address(self, at: Offset, layout: Layout) -> Address
-        requires { (self.0 < sets layout.geometry) × (at.0 < set_length layout.geometry self.0) }
+        requires { at.0 < set_length layout.geometry self.0 }
         ensures { result.0 ≡ address_of layout.geometry self.0 at.0 }
     {
         Address(layout.geometry.set_width * self.0 + at.0)

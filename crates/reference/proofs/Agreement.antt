@@ -106,9 +106,9 @@ module _ (g : Geometry) (ok : valid g ≡ true) (es : Array) (sound : Sound g es
       go (lowest a first answer) = rw (lowest-first g.depth (holding es key) a (there a first)) answer
       go (absent nowhere answer) = rw (lowest-nowhere g.depth (holding es key) (λ a l. sym (held-is key small a) ∙ nowhere a l)) answer
 
-  next-agrees : (a key : ℕ) → a < g.depth → key < patterns g → next_of (next_found g (tables_of g es) a key) ≡ next (rule.lowest g.depth (above a (holding es key)))
-  next-agrees a key inside small =
-      next-is g ok (tables_of g es) mirrors key small a inside _ (next_any g (tables_of g es) a key ok mirrors.entries inside)
+  next-agrees : (a key : ℕ) → key < patterns g → next_of (next_found g (tables_of g es) a key) ≡ next (rule.lowest g.depth (above a (holding es key)))
+  next-agrees a key small =
+      next-is g ok (tables_of g es) mirrors key small a _ (next_any g (tables_of g es) a key ok mirrors.entries)
       ∙ ap next (lowest-ext g.depth _ _ (λ b l. ap (λ h. leb (suc a) b && h) (held-is key small b)))
 
   taken-holds : (key : ℕ) → key < patterns g → (a : ℕ) → taken g (tables_of g es) key a ≡ holding es key a
@@ -152,8 +152,7 @@ module _ (g : Geometry) (ok : valid g ≡ true) (es : Array) (sound : Sound g es
   accepted-agrees (read a) p = record { answer = ap held (store_entry g f es sound a); tables = refl; sound = sound }
   accepted-agrees (first_match key) p = record { answer = first-agrees key ((pattern-passes g key).0 p.0); tables = refl; sound = sound }
   accepted-agrees (next_match a key) p =
-      let inside : a < g.depth = (address-passes g a).0 p.0 in
-      record { answer = next-agrees a key inside ((pattern-passes g key).0 p.1.0); tables = refl; sound = sound }
+      record { answer = next-agrees a key ((pattern-passes g key).0 p.1.0); tables = refl; sound = sound }
   accepted-agrees (all_match key m) p =
       let small : key < patterns g = (pattern-passes g key).0 p.1.0 in
       record { answer = ap₂ matched (matches-agree key small) (hits-agree key small); tables = refl; sound = sound }

@@ -35,7 +35,7 @@ module _ (g : Geometry) (store : List ℕ) (s : ℕ) where
         some = length-pos g (facts g ok) s inside
 
         enough : set_length g s ≤ length (drop (address_of g s 0) store)
-        enough = rw (length-drop (address_of g s 0) store) (omega (arith, address-lt g (facts g ok) s (set_length g s - 1) inside (omega (arith, some)), some))
+        enough = rw (length-drop (address_of g s 0) store) (omega (arith, address-lt g (facts g ok) s (set_length g s - 1) (omega (arith, some)), some))
 
     -- and has the store's words (rule 11.1)
     pub line-entry : (o d : ℕ) → o < set_length g s → get_or (line g store s) o d ≡ get_or store (address_of g s o) d

@@ -73,7 +73,7 @@ module _ (g : Geometry) (ok : valid g ≡ true) (t : Tables) (mirrors : Mirrors 
       }
     where
       inside : address_of g s o < g.depth
-      inside = address-lt g f s o first.within place.within
+      inside = address-lt g f s o place.within
 
       before : (a : ℕ) → a < address_of g s o → (set_of g a < s) ⊎ ((set_of g a ≡ s) × (offset_of g a < o)) → held_from from a ≡ false
       before a l (inl h) = not-held-from from a (lt_trans l inside) (first.none_before (set_of g a) h)
@@ -109,7 +109,7 @@ module _ (g : Geometry) (ok : valid g ≡ true) (t : Tables) (mirrors : Mirrors 
 
   -- ---- next-match: above its address in the own set, and from the next set on
 
-  module _ (a : ℕ) (inside : a < g.depth) where
+  module _ (a : ℕ) where
     own-first : (o : ℕ) → First (set_length g (set_of g a)) (own g t a key) o → First g.depth (above a held) (address_of g (set_of g a) o)
     own-first o first =
         let here = onward-here (held_at (set_of g a)) (suc (offset_of g a)) o first.here in
@@ -120,7 +120,7 @@ module _ (g : Geometry) (ok : valid g ≡ true) (t : Tables) (mirrors : Mirrors 
         }
       where
         last : address_of g (set_of g a) o < g.depth
-        last = address-lt g f (set_of g a) o (set-lt g f a inside) first.within
+        last = address-lt g f (set_of g a) o first.within
 
         before : (b : ℕ) → b < address_of g (set_of g a) o → (suc a ≤ b) × (held b ≡ true) → ⊥
         before b l (past, h) = go (later-address g f a b (lt_trans l last) past) (below-address g f b (set_of g a) o first.within l)
@@ -215,7 +215,7 @@ module _ (g : Geometry) (ok : valid g ≡ true) (t : Tables) (mirrors : Mirrors 
   first-match-mirrored = first-is g ok t mirrors key small _ (first-match-any g ok t mirrors.entries mirrors.words key small)
 
   pub next-match-mirrored : (a : ℕ) → a < g.depth → NextIs g t a key (step g t (next_match a key)).answer
-  next-match-mirrored a inside = next-is g ok t mirrors key small a inside _ (next-match-any g ok t mirrors.entries mirrors.words key small a inside)
+  next-match-mirrored a inside = next-is g ok t mirrors key small a _ (next-match-any g ok t mirrors.entries mirrors.words key small a inside)
 
   pub all-match-mirrored : (m : List ℕ) → length m ≡ match_words g → AllAre g t key (step g t (all_match key m)).answer
   all-match-mirrored m long = go (all-match-any g ok t mirrors.entries mirrors.words key small m long)

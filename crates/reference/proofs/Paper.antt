@@ -1,12 +1,12 @@
 -- The rules of docs/MEMORY.md written out kind by kind (4.3, 6.2, 8.3, 8.4), as instances of the one rule by rows: in kinds 0
 -- and 2 a row is a pattern, in kind 1 it is a value of a stage.
-use Prim.Native.Nat.{ℕ, ◌+◌, ◌*◌, ◌/◌, ◌%◌, ◌^◌, ◌<◌, ◌≤◌}
+use Prim.Native.Nat.{ℕ, ◌+◌, ◌*◌, ◌/◌, ◌%◌, ◌^◌, ◌<◌}
 use mathlib.Core.Path.{◌≡◌, refl, sym, ap, ◌∙◌}
-use mathlib.Core.Bool.{true, false, not, ◌&&◌, and-true, and-false, or-false}
+use mathlib.Core.Bool.{true, false, not, ◌&&◌, and-true, or-false}
 use mathlib.Core.List.{List, [], ◌∷◌}
 use native.Mathlib.Omega.{arith}
-use lib.Dec.{eqb, ltb}
-use lib.ListN.{get_or, get_or-eq_default}
+use lib.Dec.{eqb}
+use lib.ListN.{get_or}
 use borrow.Author.Tests.{eqb-true, eq-eqb}
 use Rattle.words.specs.Rules.{any, member}
 use Rattle.words.specs.Bits.{bit}
@@ -15,12 +15,12 @@ use Rattle.geometry.specs.declared.Geometry.{Geometry}
 use Rattle.geometry.specs.Valid.{valid, cascaded, segmented}
 use Rattle.geometry.specs.Sizes.{patterns, sets, row_words, set_of, address_of, set_length}
 use Rattle.geometry.specs.Stages.{stages, stage_width, stage, row_of, rows_of, rows}
-use Rattle.geometry.proofs.Facts.{Facts, facts}
-use Rattle.geometry.proofs.Places.{address-past, alone-address, alone-set}
+use Rattle.geometry.proofs.Facts.{facts}
+use Rattle.geometry.proofs.Places.{alone-address, alone-set}
 use Rattle.geometry.proofs.Stages.{row_lt, row-among, one-stage-kind, one-row, one-stage}
 use Rattle.cover.specs.Image.{cell, covered, image}
 use Rattle.cover.specs.Change.{others_cover}
-use Rattle.cover.proofs.Image.{image-cell, image-bit}
+use Rattle.cover.proofs.Image.{image-bit}
 use Rattle.reference.specs.Entry.{Entry, empty, pattern, Fits, holds}
 use Rattle.reference.specs.Calls.{write, erase, held}
 use Rattle.reference.specs.Array.{Array, entry_at, Sound}
@@ -37,19 +37,6 @@ pub stage-starts : (g : Geometry) (ind : List ℕ) (p k j b : ℕ)
     → cell g ind (row_of g p k) j b ≡ bit (get_or ind (row_words g * 512 * k + row_words g * stage g k p + j) 0) b
 unfolding row_of
 stage-starts g ind p k j b = ap (λ m. bit (get_or ind m 0) b) (omega arith)
-
--- past the last set there is no address to cover a row
-uncovered : (g : Geometry) → Facts g → (es : Array) → Sound g es → (r s : ℕ) → sets g ≤ s → covered g (array_cover g es) r s ≡ false
-unfolding covered covers entry_rows member
-uncovered g f es sound r s past =
-    any_false (set_length g s) _
-    (λ o l. rw (get_or-eq_default es empty {n = address_of g s o} (rw sound.long (address-past g f s o past))))
-
--- padding bits of the image (rule 6.3)
-pub image-padding : (g : Geometry) → valid g ≡ true → (es : Array) → Sound g es → (r j b : ℕ) → r < rows g → j < row_words g → sets g ≤ 64 * j + b
-    → cell g (image g (array_cover g es)) r j b ≡ false
-image-padding g ok es sound r j b hr hj past =
-    image-cell g (facts g ok) (array_cover g es) r j b hr hj ∙ rw (uncovered g (facts g ok) es sound r (64 * j + b) past) (and-false (ltb b 64))
 
 -- ---- kinds 0 and 2
 

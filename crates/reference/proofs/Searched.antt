@@ -136,7 +136,7 @@ module _ (g : Geometry) (ok : valid g ≡ true) (t : Tables) (key from : ℕ) wh
     where
       go : (b : Bool) → eqb g.kind segmented ≡ b → LowestIs (set_length g s) (equal_at g t key s) (seek_entry g t key s)
           → FoundOnAny g t key from (in_set g t key s w)
-      go true p (at_first o q place) = by_entry s o w first p place looks (rw (p, in_set, q, (line-length g t.store s ok long first.within).0))
+      go true p (at_first o q place) = by_entry s o w first p place looks (rw (p, in_set, q) (ap (hit (address_of g s o) w) (line-length g t.store s ok long first.within).0))
       go true p (at_none q nowhere) = by_false s first (p, nowhere) (rw (p, in_set, q))
       go false p r = by_set s w first p looks (rw (p, in_set))
 
@@ -199,9 +199,9 @@ module _ (g : Geometry) (t : Tables) (a key : ℕ) where
   unfolding seek_own
   own-is = lowest-is (set_length g (set_of g a)) own
 
-  pub next_any : valid g ≡ true → length t.store ≡ g.depth → a < g.depth → NextOnAny g t a key (next_of (next_found g t a key))
+  pub next_any : valid g ≡ true → length t.store ≡ g.depth → NextOnAny g t a key (next_of (next_found g t a key))
   unfolding next_found next_of
-  next_any ok long inside = go own-is
+  next_any ok long = go own-is
     where
       f : Facts g
       f = facts g ok
@@ -339,8 +339,8 @@ module _ (g : Geometry) (ok : valid g ≡ true) (t : Tables) (stored : length t.
       rw (ok, (lengths-pass g t).1 (stored, words), (address-passes g a).1 inside, (pattern-passes g key).1 small) (go (is_false (next_found g t a key)) refl)
     where
       go : (b : Bool) → is_false (next_found g t a key) ≡ b → NextOnAny g t a key (outcome g t (next_match a key) (first_refusal (6 given-when b ∷ []))).answer
-      go true e = rw (false-next (next_found g t a key) e) at (next_any g t a key ok stored inside)
-      go false e = next_any g t a key ok stored inside
+      go true e = rw (false-next (next_found g t a key) e) at (next_any g t a key ok stored)
+      go false e = next_any g t a key ok stored
 
   pub all-match-any : (m : List ℕ) → length m ≡ match_words g → AllOnAny g t key (step g t (all_match key m)).answer
   unfolding step outcome refusals own_refusals bad_matches first_refusal accepted

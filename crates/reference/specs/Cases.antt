@@ -32,6 +32,13 @@ K = record { kind = 1; depth = 2; pattern_width = 10; set_width = 1 }
 abbrev pub deep : Geometry
 deep = record { kind = 0; depth = 65; pattern_width = 1; set_width = 1 }
 
+-- Three sets, of two addresses and, the last one, of one; and sixteen, of 64 and of 40.
+abbrev pub short : Geometry
+short = record { kind = 2; depth = 5; pattern_width = 2; set_width = 2 }
+
+abbrev pub thousand : Geometry
+thousand = record { kind = 2; depth = 1000; pattern_width = 1; set_width = 64 }
+
 -- Tables before their clear: what they hold does not matter.
 abbrev pub unclear : (entries words : ℕ) → Tables
 unclear entries words = record { store = replicate entries 7; indicators = replicate words 5 }
@@ -73,6 +80,10 @@ cases =
     -- a walk: two addresses of set 0 and one of set 3, then none
     ∷ on_s (write 6 3 ∷ write 1 3 ∷ write 0 3 ∷ first_match 3 ∷ next_match 0 3 ∷ next_match 1 3 ∷ next_match 6 3 ∷ [])
     (held empty ∷ held empty ∷ held empty ∷ at 0 1 2 ∷ next (Option.some 1) ∷ next (Option.some 6) ∷ next Option.none ∷ [])
+    -- a last set that is short: c is its length, its bit goes with its one entry, and the addresses end with it
+    ∷ cleared-first thousand (unclear 1000 2) (write 999 1 ∷ first_match 1 ∷ write 959 1 ∷ first_match 1 ∷ []) (held empty ∷ at 999 1 40 ∷ held empty ∷ at 959 1 64 ∷ [])
+    ∷ cleared-first short (unclear 5 4) (write 4 1 ∷ write 3 1 ∷ all_match 1 (9 ∷ []) ∷ first_match 1 ∷ next_match 3 1 ∷ next_match 4 1 ∷ []) (held empty ∷ held empty ∷ matched (24 ∷ []) 2 ∷ at 3 1 2 ∷ next (Option.some 4) ∷ next Option.none ∷ [])
+    ∷ cleared-first short (unclear 5 4) (write 4 1 ∷ write 4 2 ∷ first_match 1 ∷ write 5 1 ∷ erase 4 ∷ first_match 2 ∷ []) (held empty ∷ held (pattern 1) ∷ none 1 0 ∷ refused 3 ∷ held (pattern 2) ∷ none 1 0 ∷ [])
     -- P10
     ∷ record { geometry = S; tables = damaged; calls = first_match 1 ∷ []; answers = refused 6 ∷ [] }
     ∷ []
@@ -123,6 +134,10 @@ wide = record { kind = 2; depth = 8; pattern_width = 1; set_width = 4 }
 
 abbrev pub stored : (a b c d : ℕ) → List ℕ
 stored a b c d = a ∷ b ∷ c ∷ d ∷ E ∷ E ∷ E ∷ E ∷ []
+
+-- The five entries of `short`, whose last one is a set.
+abbrev pub stored_five : (a b c d e : ℕ) → List ℕ
+stored_five a b c d e = a ∷ b ∷ c ∷ d ∷ e ∷ []
 
 abbrev pub zeros : List ℕ
 zeros = 0 ∷ 0 ∷ 0 ∷ 0 ∷ []
@@ -202,6 +217,17 @@ trials =
     ∷ answers_with (alone 0) (E ∷ E ∷ E ∷ E ∷ []) (0 ∷ 4 ∷ []) (all_match 1 (9 ∷ [])) (matched (4 ∷ []) 1) (4 ∷ [])
     ∷ answers_with (alone 2) (E ∷ E ∷ 1 ∷ E ∷ []) (0 ∷ 4 ∷ []) (first_match 1) (at 2 1 1) []
     ∷ refuses (alone 2) (E ∷ E ∷ E ∷ E ∷ []) (0 ∷ 4 ∷ []) (first_match 1) 6 []
+    -- a last set that is short: a hit and marks in it, itself false, the padding bit beside it, and a walk that ends in it
+    ∷ answers_with short (stored_five E E E E 1) (row1 4) (first_match 1) (at 4 1 1) []
+    ∷ answers_with short (stored_five 1 E E E 1) (row1 5) (all_match 1 (9 ∷ [])) (matched (17 ∷ []) 2) (17 ∷ [])
+    ∷ refuses short (stored_five 1 1 1 1 E) (row1 4) (first_match 1) 6 []
+    ∷ refuses short (stored_five 1 1 1 1 E) (row1 7) (all_match 1 (9 ∷ [])) 6 (9 ∷ [])
+    ∷ answers_with short (stored_five E E E E 1) (row1 8) (first_match 1) (none 1 0) []
+    ∷ found_next short (stored_five 1 E E E 1) (row1 5) 0 1 (Option.some 4)
+    ∷ found_next short (stored_five 1 E E E 1) (row1 15) 4 1 Option.none
+    -- its bit is set and cleared by its one address
+    ∷ writes short (stored_five E E E 1 1) (row1 6) (write 4 2) (held (pattern 1)) (stored_five E E E 1 2) (0 ∷ 2 ∷ 4 ∷ 0 ∷ [])
+    ∷ writes short (stored_five E E E 1 1) (row1 14) (erase 4) (held (pattern 1)) (stored_five E E E 1 E) (row1 10)
     -- rows of two words: word 1 of row 1 is number 3; a match word of two
     ∷ writes deep (replicate 65 E) zeros (write 64 1) (held empty) (set (replicate 65 E) 64 1) (0 ∷ 0 ∷ 0 ∷ 1 ∷ [])
     ∷ answers_with deep (replicate 65 E) (0 ∷ 0 ∷ 2 ∷ 1 ∷ []) (all_match 1 (9 ∷ 9 ∷ [])) (matched (2 ∷ 1 ∷ []) 2) (2 ∷ 1 ∷ [])
@@ -243,6 +269,10 @@ mirrors =
     ∷ mirror S (stored E 1 E E) (row1 25) false
     -- an entry that is no pattern covers nothing
     ∷ mirror S (stored 4 1 E E) (row1 1) true
+    -- bit 2 is the last set's, which has one address; bit 3 is padding
+    ∷ mirror short (stored_five E E E E 1) (row1 12) true
+    ∷ mirror short (stored_five E E E 1 E) (row1 6) false
+    ∷ mirror short (stored_five E E E E 1) zeros false
     -- lengths
     ∷ mirror S (E ∷ []) zeros false
     ∷ mirror S (stored E E E E) (0 ∷ []) false
@@ -312,6 +342,11 @@ boards =
     ∷ off_board no_kind (4 ∷ []) [] 1 (empty ∷ [])
     ∷ off_board S (4 ∷ []) zeros 2 (empty ∷ [])
     ∷ off_board S (stored 4 E E E) (1 ∷ []) 2 (four empty empty empty empty)
+    -- a last set of one address: its bit with its entry, stale, missing, and the padding bit beside it
+    ∷ on_board short (stored_five E E 3 E 3) (0 ∷ 0 ∷ 0 ∷ 6 ∷ []) (empty ∷ empty ∷ pattern 3 ∷ empty ∷ pattern 3 ∷ [])
+    ∷ off_board short (stored_five E E 3 E E) (0 ∷ 0 ∷ 0 ∷ 6 ∷ []) 10 (empty ∷ empty ∷ pattern 3 ∷ empty ∷ empty ∷ [])
+    ∷ off_board short (stored_five E E 3 E 3) (0 ∷ 0 ∷ 0 ∷ 2 ∷ []) 10 (empty ∷ empty ∷ pattern 3 ∷ empty ∷ pattern 3 ∷ [])
+    ∷ off_board short (stored_five E E 3 E 3) (0 ∷ 0 ∷ 0 ∷ 14 ∷ []) 10 (empty ∷ empty ∷ pattern 3 ∷ empty ∷ pattern 3 ∷ [])
     -- rows of two words, whose second has one bit that is a set's
     ∷ on_board deep deep_store (0 ∷ 0 ∷ 0 ∷ 1 ∷ []) (set (replicate 65 empty) 64 (pattern 1))
     ∷ off_board deep deep_store (0 ∷ 0 ∷ 0 ∷ 3 ∷ []) 10 (set (replicate 65 empty) 64 (pattern 1))

@@ -3,20 +3,20 @@
 use Prim.Native.Nat.{ℕ, ◌+◌, ◌*◌, ◌/◌, ◌%◌, ◌^◌, ◌<◌}
 use mathlib.Core.Path.{◌≡◌, refl, sym, ap, ◌∙◌}
 use mathlib.Core.Logic.{◌↔◌}
-use mathlib.Core.Bool.{Bool, true, false, not, ◌||◌, and-eq-true_iff, false≢true}
+use mathlib.Core.Bool.{true, false, not, ◌||◌, and-eq-true_iff, false≢true}
 use mathlib.Core.List.{List}
 use mathlib.Mathlib.Data.Bool.Basic.{or-eq-false-eq-eq-false-and-eq-false}
 use native.Mathlib.Omega.{arith}
 use lib.Dec.{eqb, ltb}
 use lib.ListN.{length, get_or}
 use lib.Seq.{ext_get_or}
-use borrow.Author.Tests.{ltb-true, ltb-false, eqb-true, eq-eqb, not-false}
+use borrow.Author.Tests.{ltb-true, eqb-true, eq-eqb, not-false}
 use Rattle.words.specs.Rules.{any, member, Nowhere}
 use Rattle.words.specs.Bits.{bit}
 use Rattle.words.proofs.Rules.{both_ways, both_false, any-witness, any-true, any_false, none-of-any, get_or-tabulate, member-tabulate}
 use Rattle.words.proofs.Bits.{bits-equal, bit-word-all}
 use Rattle.geometry.specs.declared.Geometry.{Geometry}
-use Rattle.geometry.specs.Sizes.{sets, row_words, set_of, offset_of, address_of, set_length}
+use Rattle.geometry.specs.Sizes.{row_words, set_of, offset_of, address_of, set_length}
 use Rattle.geometry.specs.Stages.{stages, stage_width, stage, row_of, rows_of, rows, indicator_words}
 use Rattle.geometry.proofs.Facts.{Facts}
 use Rattle.geometry.proofs.Places.{set-lt, offset-lt, address-lt, address-of, set-of, place-lt, row-of-place, word-of-place, place_of, word-lt-row}
@@ -32,10 +32,9 @@ use Rattle.reference.specs.Resume.{bad_tables}
 use Rattle.reference.proofs.Resume.{tables-pass, shown-image}
 use Rattle.amiss.specs.Amiss.{is_missing, lacks, is_amiss}
 use Rattle.stale.specs.Stale.{image_word, word_is_stale, row_is_stale, stage_is_stale, any_is_stale}
-use Rattle.stale.proofs.Covered.{past-covered}
 use Rattle.stale.proofs.Exceeding.{exceeds-not}
 
-module _ (g : Geometry) (f : Facts g) (t : Tables) (long : length t.store ≡ g.depth) (full : length t.indicators ≡ indicator_words g) where
+module _ (g : Geometry) (f : Facts g) (t : Tables) (full : length t.indicators ≡ indicator_words g) where
   -- a word of the image, by its row
   image-word : (r j : ℕ) → r < rows g → j < row_words g → get_or (image g (store_cover g t)) (row_words g * r + j) 0 ≡ image_word g (store_cover g t) r j
   unfolding image
@@ -88,19 +87,15 @@ module _ (g : Geometry) (f : Facts g) (t : Tables) (long : length t.store ≡ g.
   amiss-fine a h = ((or-eq-false-eq-eq-false-and-eq-false (bad_entry g t a) _).0 h).0
 
   module _ (amiss : Nowhere g.depth (is_amiss g t)) (stale : (r : ℕ) → r < rows g → row_is_stale g t r ≡ false) where
-    -- what an entry of a set covers, the indicators have; past the last set there is no entry
+    -- what an entry of a set covers, the indicators have
     covered-bit : (r s : ℕ) → covered g (store_cover g t) r s ≡ true → cell g t.indicators r (s / 64) (s % 64) ≡ true
     unfolding covered is_amiss
-    covered-bit r s h = go (ltb s (sets g)) refl
+    covered-bit r s h = of_entry (any-witness (set_length g s) _ h)
       where
-        of_entry : s < sets g → (o : ℕ) × (o < set_length g s) × (covers g (stored_entry g t (address_of g s o)) r ≡ true) → cell g t.indicators r (s / 64) (s % 64) ≡ true
-        of_entry hs (o, l, c) =
-            let parts = (or-eq-false-eq-eq-false-and-eq-false (bad_entry g t (address_of g s o)) _).0 (amiss (address_of g s o) (address-lt g f s o hs l)) in
+        of_entry : (o : ℕ) × (o < set_length g s) × (covers g (stored_entry g t (address_of g s o)) r ≡ true) → cell g t.indicators r (s / 64) (s % 64) ≡ true
+        of_entry (o, l, c) =
+            let parts = (or-eq-false-eq-eq-false-and-eq-false (bad_entry g t (address_of g s o)) _).0 (amiss (address_of g s o) (address-lt g f s o l)) in
             none-lacking s r (stored_entry g t (address_of g s o)) (rw (set-of g f s o l) at parts.1) c
-
-        go : (b : Bool) → ltb s (sets g) ≡ b → cell g t.indicators r (s / 64) (s % 64) ≡ true
-        go true e = of_entry (ltb-true s (sets g) e) (any-witness (set_length g s) _ h)
-        go false e = absurd (false≢true (sym (past-covered g f t long r s (ltb-false s (sets g) e)) ∙ h))
 
     -- a word has no bit that the image has not, and each that it has
     word_same : (r j : ℕ) → r < rows g → j < row_words g → get_or t.indicators (row_words g * r + j) 0 ≡ image_word g (store_cover g t) r j

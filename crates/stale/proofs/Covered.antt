@@ -1,23 +1,17 @@
--- Which rows a word of the store covers, by its stages; and that past the last set nothing is covered.
-use Prim.Native.Nat.{ℕ, ◌+◌, ◌*◌, ◌^◌, ◌<◌, ◌≤◌}
+-- Which rows a word of the store covers, by its stages.
+use Prim.Native.Nat.{ℕ, ◌+◌, ◌*◌, ◌^◌, ◌<◌}
 use mathlib.Core.Path.{◌≡◌, sym, ◌∙◌}
 use mathlib.Core.Bool.{Bool, true, false, cond, ◌&&◌, and-true, and-false}
 use lib.Dec.{eqb, ltb}
-use lib.ListN.{length, get_or-eq_default}
 use borrow.Author.Tests.{eq-eqb, ne_eqb}
 use Rattle.words.specs.Rules.{member}
-use Rattle.words.proofs.Rules.{any_false}
 use Rattle.geometry.specs.declared.Geometry.{Geometry}
-use Rattle.geometry.specs.Sizes.{patterns, sets, address_of}
+use Rattle.geometry.specs.Sizes.{patterns}
 use Rattle.geometry.specs.Stages.{stages, stage_width, stage}
 use Rattle.geometry.proofs.Facts.{Facts}
-use Rattle.geometry.proofs.Places.{address-past}
 use Rattle.geometry.proofs.Stages.{row-among}
-use Rattle.cover.specs.Image.{covered}
-use Rattle.reference.specs.Entry.{empty, pattern, empty_word, word_of, entry_of}
-use Rattle.reference.specs.Tables.{Tables, stored_entry}
-use Rattle.reference.specs.Image.{entry_rows, covers, store_cover}
-use Rattle.reference.proofs.Entries.{empty-fits, entry-word}
+use Rattle.reference.specs.Entry.{empty, pattern, entry_of}
+use Rattle.reference.specs.Image.{entry_rows, covers}
 
 module _ (g : Geometry) (f : Facts g) where
   -- a word covers the row of value x of stage k exactly when it is a pattern and x is its stage k
@@ -36,12 +30,3 @@ module _ (g : Geometry) (f : Facts g) where
 
     pub value-other : (v ≡ x → ⊥) → eqb v x ≡ covers g (entry_of g w) (512 * k + x)
     value-other n = ne_eqb v x n ∙ sym (value-covers k x w h small ∙ rw (ne_eqb x (stage g k w) (λ e. n (is ∙ sym e))))
-
-  -- past the store there is no entry
-  past-entry : (t : Tables) → length t.store ≡ g.depth → (a : ℕ) → g.depth ≤ a → stored_entry g t a ≡ empty
-  unfolding word_of
-  past-entry t long a h = rw (get_or-eq_default t.store empty_word {n = a} (rw long h)) (entry-word g f empty (empty-fits g))
-
-  pub past-covered : (t : Tables) → length t.store ≡ g.depth → (r s : ℕ) → sets g ≤ s → covered g (store_cover g t) r s ≡ false
-  unfolding covered covers entry_rows member
-  past-covered t long r s h = any_false _ _ (λ o l. rw (past-entry t long (address_of g s o) (address-past g f s o h)))

@@ -4,7 +4,7 @@
 #![tactic(auto)]
 
 ghost use Rattle.std.specs.Prelude.{◌^◌, ◌<◌, ◌≡◌};
-ghost use Rattle.geometry.specs.Sizes.{sets, row_words, address_of, set_length};
+ghost use Rattle.geometry.specs.Sizes.{row_words, address_of, set_length};
 ghost use Rattle.geometry.specs.Stages.{stages, stage_width};
 ghost use Rattle.cover.specs.Image.{covered};
 ghost use Rattle.reference.specs.Entry.{entry_of};
@@ -57,7 +57,7 @@ impl<'a> Row<'a> {
 
     // Whether the entry at an offset of a set covers it.
     fn is_covered_at(&self, set: SetIndex, at: Offset) -> bool
-        requires { (set.0 < sets (geometry_of self.now)) × (at.0 < set_length (geometry_of self.now) set.0) }
+        requires { at.0 < set_length (geometry_of self.now) set.0 }
         ensures { result ≡ cover_of self.now (address_of (geometry_of self.now) set.0 at.0) (number self.now) }
     {
         self.is_covered_by(set.address(at, self.tables.layout).word(self.tables.store))

@@ -86,7 +86,7 @@ module _ (t : Target) {s : ℕ} (is : s ≡ set_of t.layout.geometry t.address.0
   address-there o ho b eb =
       let g = t.layout.geometry in
       let f = facts g t.layout.sized.is-valid in
-      rw (t.entries, eb) (address-lt g f s o set-there ho)
+      rw (t.entries, eb) (address-lt g f s o ho)
 
   -- whether the address at offset o is another one that covers the row
   abbrev pub other_covers : (row o : ℕ) → Bool

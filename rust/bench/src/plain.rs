@@ -27,7 +27,7 @@ fn is_valid(g: Geometry) -> bool {
     let widest = if g.kind == CASCADED { 27 } else { 12 };
     let sets_fit = match g.kind {
         TRANSPOSED | CASCADED => g.set_width == 1,
-        SEGMENTED => (1..=64).contains(&g.set_width) && g.depth.is_multiple_of(g.set_width),
+        SEGMENTED => (1..=64).contains(&g.set_width) && g.set_width <= g.depth,
         _ => false,
     };
     (1..=4096).contains(&g.depth) && (1..=widest).contains(&g.pattern_width) && sets_fit
@@ -51,7 +51,7 @@ impl Sizes {
         if !is_valid(g) {
             return Err(Refusal::Geometry);
         }
-        let sets = (g.depth / g.set_width) as usize;
+        let sets = g.depth.div_ceil(g.set_width) as usize;
         let row_words = sets.div_ceil(64);
         let stages = match g.kind {
             CASCADED => g.pattern_width.div_ceil(9),
@@ -106,8 +106,10 @@ impl Sizes {
         true
     }
 
+    /// A last set that is short ends with the store.
     fn is_covered(&self, store: &[u32], row: usize, set: usize) -> bool {
-        let line = &store[self.set_width * set..][..self.set_width];
+        let first = self.set_width * set;
+        let line = &store[first..store.len().min(first + self.set_width)];
         line.iter().any(|&entry| self.covers(entry, row))
     }
 

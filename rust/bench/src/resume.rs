@@ -92,7 +92,7 @@ fn verdict(memory: &Memory) -> Verdict {
 /// Bits of the indicators, counted through all words: one that is 1, one that is 0 and a set's, and
 /// one of the padding, if there is any.
 fn bits_of_each_sort(memory: &Memory) -> Vec<usize> {
-    let sets = (memory.geometry.depth / memory.geometry.set_width) as usize;
+    let sets = memory.geometry.depth.div_ceil(memory.geometry.set_width) as usize;
     let row_bits = sets.next_multiple_of(64);
     let is_one = |&bit: &usize| memory.indicators[bit / 64] >> (bit % 64) & 1 == 1;
     let is_padding = |&bit: &usize| bit % row_bits >= sets;
@@ -103,11 +103,15 @@ fn bits_of_each_sort(memory: &Memory) -> Vec<usize> {
     [one, zero, padding].into_iter().flatten().collect()
 }
 
-/// The depths that are timed fill their words; these do not.
+/// The depths that are timed fill their words and their sets. Here words have padding, and at last a
+/// set is short.
 fn agree_on_padding() {
-    for (kind, pattern_width, set_width) in
-        [(TRANSPOSED, 3, 1), (CASCADED, 20, 1), (SEGMENTED, 3, 2)]
-    {
+    for (kind, pattern_width, set_width) in [
+        (TRANSPOSED, 3, 1),
+        (CASCADED, 20, 1),
+        (SEGMENTED, 3, 2),
+        (SEGMENTED, 3, 9),
+    ] {
         agree(&Memory::half_full(kind, 140, pattern_width, set_width));
     }
 }

@@ -3,9 +3,10 @@
 use cam::{Geometry, Memory, Refusal, SEGMENTED};
 
 fn main() -> Result<(), Refusal> {
+    // Fifteen addresses in sets of four, of which the last has three.
     let mut memory = Memory::new(Geometry {
         kind: SEGMENTED,
-        depth: 16,
+        depth: 15,
         pattern_width: 3,
         set_width: 4,
     })?;

@@ -24,7 +24,8 @@ pub const SEGMENTED: u32 = 2;
 pub const EMPTY: u32 = u32::MAX;
 
 /// The four numbers of a memory. Any numbers may stand here; the library refuses those that are no
-/// geometry.
+/// geometry. A segmented memory's depth need not be a multiple of its set width: the last set has
+/// the addresses that are left (rule 2.7 of docs/MEMORY.md).
 #[derive(Clone, Copy, Debug, PartialEq, Eq)]
 pub struct Geometry {
     pub kind: u32,
@@ -75,8 +76,8 @@ impl fmt::Display for Refusal {
 
 impl Error for Refusal {}
 
-/// What a first-match gives. The w of rule 8.10 is `words_read`, its c `entries_compared`: the
-/// set width after a hit in kind 2, else 0.
+/// What a first-match gives. The w of rule 8.10 is `words_read`, its c `entries_compared`: how many
+/// addresses the set of the hit has in kind 2, else 0.
 #[derive(Clone, Copy, Debug, PartialEq, Eq)]
 pub struct FirstMatch {
     pub address: Option<u32>,

@@ -94,6 +94,10 @@ pub trait Family: Clone + 'static {
     /// so when a trial is cut down.
     fn erase(g: &Geometry, tables: &mut Self::Tables, address: u32);
 
+    /// The tables of a less deep geometry of sets as wide, whose sets are the last ones of this: none
+    /// where there is no such geometry or the tables do not fit.
+    fn without_first(g: &Geometry, tables: &Self::Tables, less: &Geometry) -> Option<Self::Tables>;
+
     /// What a single call meets, from the tables before it and the answer.
     fn met_by_step(
         g: &Geometry,

@@ -1,6 +1,7 @@
 //! Geometries, and the sizes that follow from one: sections 2 to 4 of docs/MEMORY.md.
 
 use std::fmt;
+use std::ops::Range;
 
 pub const TRANSPOSED: u32 = 0;
 pub const CASCADED: u32 = 1;
@@ -35,7 +36,7 @@ impl Geometry {
         (1..=4096).contains(&self.depth)
             && (1..=widest_pattern).contains(&self.pattern_width)
             && (1..=widest_set).contains(&self.set_width)
-            && self.depth % self.set_width == 0
+            && self.set_width <= self.depth
     }
 
     /// 2^P, which is above every pattern (rule 2.3).
@@ -43,9 +44,9 @@ impl Geometry {
         1 << self.pattern_width
     }
 
-    /// C (rule 2.6).
+    /// C (rule 2.6). A last set that is short is one too.
     pub fn sets(&self) -> usize {
-        (self.depth / self.set_width) as usize
+        self.depth.div_ceil(self.set_width) as usize
     }
 
     /// The set that an address belongs to (rule 2.5).
@@ -53,10 +54,18 @@ impl Geometry {
         (address / self.set_width) as usize
     }
 
-    /// The addresses of a set, the one at offset 0 first (rule 2.5).
-    pub fn addresses_of(&self, set: usize) -> std::ops::Range<u32> {
+    /// The addresses of a set, the one at offset 0 first (rule 2.5). The last set ends with the
+    /// depth (rule 2.7).
+    pub fn addresses_of(&self, set: usize) -> Range<u32> {
         let first = set as u32 * self.set_width;
-        first..first + self.set_width
+        first..self.depth.min(first + self.set_width)
+    }
+
+    /// The last set, if it has fewer addresses than the others.
+    pub fn short_set(&self) -> Option<usize> {
+        let last = self.sets() - 1;
+        let is_short = self.addresses_of(last).len() < self.set_width as usize;
+        is_short.then_some(last)
     }
 
     /// R (rule 3.4).

@@ -72,15 +72,17 @@ impl Pool {
     }
 }
 
-/// Some address with its neighbours, the ends, the ends of a row's first word, and any others.
+/// Some address with its neighbours, the ends, the ends of a row's first word, where the last set
+/// begins, and any others.
 fn addresses(random: &mut Random, g: &Geometry) -> Vec<u32> {
     let last = g.depth - 1;
     let base = random.below(g.depth);
     let word = 64 * g.set_width;
+    let last_set = g.addresses_of(g.sets() - 1).start;
     let mut addresses = vec![base, (base + 1).min(last), base.saturating_sub(1)];
     for _ in 0..random.below(6) {
         let any = random.below(g.depth);
-        let chosen = random.pick(&[0, last, word - 1, word, any, base ^ 1]);
+        let chosen = random.pick(&[0, last, last_set, word - 1, word, any, base ^ 1]);
         addresses.push(chosen.min(last));
     }
     addresses

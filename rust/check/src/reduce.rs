@@ -16,12 +16,13 @@ type Step<F> = fn(&mut Trial<F>, Fails<Trial<F>>) -> bool;
 /// A change that makes a trial smaller in some way.
 type Edit<F> = Box<dyn Fn(&mut Trial<F>)>;
 
-/// Removes calls until none can be removed, then erases entries, lowers numbers and empties tables
-/// where it still fails; begins again as long as something changes.
+/// Removes calls until none can be removed, then erases entries, removes sets, lowers numbers and
+/// empties tables where it still fails; begins again as long as something changes.
 pub fn reduce<F: Family>(mut trial: Trial<F>, fails: Fails<Trial<F>>) -> Trial<F> {
-    let steps: [Step<F>; 6] = [
+    let steps: [Step<F>; 7] = [
         remove_calls,
         erase_entries,
+        |trial, fails| edit_while_any(trial, fails, remove_first_sets),
         |trial, fails| edit_while_any(trial, fails, smaller_geometries),
         |trial, fails| edit_while_any(trial, fails, lower_numbers_of_calls),
         |trial, fails| edit_while_any(trial, fails, nearer_lengths),
@@ -100,6 +101,32 @@ pub fn remove_runs<T: Clone>(
     changed
 }
 
+/// Removes sets before what is left, with all that the tables and the calls have there, so that what
+/// is in the last set stays in it.
+fn remove_first_sets<F: Family>(trial: &Trial<F>) -> Vec<Edit<F>> {
+    let old = trial.geometry;
+    if !old.is_valid() {
+        return Vec::new();
+    }
+    let left = lower_numbers(old.sets() as u32).into_iter();
+    let edit = |left| -> Option<Edit<F>> {
+        let distance = (old.sets() as u32 - left) * old.set_width;
+        let depth = old.depth.checked_sub(distance)?;
+        let new = Geometry { depth, ..old };
+        let tables = F::without_first(&old, &trial.before, &new)?;
+        let lower = move |(sort, n): (Sort, u32)| match sort {
+            ADDRESS => n.saturating_sub(distance),
+            _ => n,
+        };
+        Some(Box::new(move |trial| {
+            change_geometry(trial, new);
+            trial.before = tables.clone();
+            change_numbers(trial, lower);
+        }))
+    };
+    left.filter_map(edit).collect()
+}
+
 fn lower_numbers(n: u32) -> Vec<u32> {
     let mut lower = vec![0, 1, n / 2, n.saturating_sub(1)];
     lower.retain(|&number| number < n);
@@ -112,15 +139,15 @@ fn smaller_geometries<F: Family>(trial: &Trial<F>) -> Vec<Edit<F>> {
     for pattern_width in lower_numbers(g.pattern_width) {
         smaller.push(Geometry { pattern_width, ..g });
     }
-    // The number of sets and their width are lowered apart from each other, so that one divides the
-    // depth.
-    let sets = g.depth.checked_div(g.set_width).unwrap_or(0);
-    for sets in lower_numbers(sets) {
-        let depth = sets * g.set_width;
+    for depth in lower_numbers(g.depth) {
         smaller.push(Geometry { depth, ..g });
     }
+    // Narrower sets, more of them or as many. In the second case a last set that is short stays so.
+    let before_last = g.depth.div_ceil(g.set_width.max(1)).saturating_sub(1);
+    let last = g.depth - before_last * g.set_width;
     for set_width in lower_numbers(g.set_width) {
-        let depth = sets * set_width;
+        let depth = before_last * set_width + last.min(set_width);
+        smaller.push(Geometry { set_width, ..g });
         smaller.push(Geometry {
             depth,
             set_width,

@@ -24,10 +24,11 @@ const NUMBER: u64 = 4;
 
 /// Numbers past the small ones, around where a row gets another word and where a rule ends.
 const KINDS: [u32; 1] = [u32::MAX];
-const DEPTHS: [u32; 11] = [
+const DEPTHS: [u32; 12] = [
     191,
     192,
     193,
+    1000,
     1024,
     1025,
     4032,

@@ -48,7 +48,7 @@ const PATTERN_WIDTH_0: Subject = "pattern width 0";
 const PATTERN_WIDTH_OVER: Subject = "a pattern width over 12, in kind 1 over 27";
 const SET_WIDTH_0: Subject = "set width 0";
 const SET_WIDTH_OVER: Subject = "a set width over 64, in kinds 0 and 1 over 1";
-const SET_WIDTH_UNEVEN: Subject = "a set width that does not divide the depth";
+const SET_WIDTH_ABOVE: Subject = "a set width above the depth";
 
 pub const BROKEN_RULES: &[Subject] = &[
     NO_SUCH_KIND,
@@ -58,7 +58,7 @@ pub const BROKEN_RULES: &[Subject] = &[
     PATTERN_WIDTH_OVER,
     SET_WIDTH_0,
     SET_WIDTH_OVER,
-    SET_WIDTH_UNEVEN,
+    SET_WIDTH_ABOVE,
 ];
 
 /// The widest pattern and the widest set of a kind.
@@ -80,11 +80,12 @@ pub fn broken_rules(g: &Geometry) -> Vec<Subject> {
         (g.pattern_width > widest_pattern, PATTERN_WIDTH_OVER),
         (g.set_width == 0, SET_WIDTH_0),
         (g.set_width > widest_set, SET_WIDTH_OVER),
-        (uneven(g), SET_WIDTH_UNEVEN),
+        (above_depth(g), SET_WIDTH_ABOVE),
     ])
 }
 
-/// In kinds 0 and 1 a set width other than 1 breaks their own rule.
-fn uneven(g: &Geometry) -> bool {
-    g.kind == SEGMENTED && g.set_width != 0 && g.depth % g.set_width != 0
+/// In kinds 0 and 1 a set width other than 1 breaks their own rule, and depth 0 is one whatever the
+/// set width.
+fn above_depth(g: &Geometry) -> bool {
+    g.kind == SEGMENTED && g.depth != 0 && g.set_width > g.depth
 }

@@ -74,6 +74,20 @@ pub fn clear_bit(words: &mut [u64], row_start: usize, set: usize) {
     }
 }
 
+/// The indicators of a less deep geometry whose sets are the last ones of this, padding bits 0.
+pub fn bits_of_last_sets(g: &Geometry, words: &[u64], less: &Geometry) -> Vec<u64> {
+    let mut left = vec![0; less.indicator_words()];
+    let first = g.sets() - less.sets();
+    for row in 0..words.len() / g.row_words() {
+        for set in 0..less.sets() {
+            if bit(words, g.row_words() * row, first + set) {
+                set_bit(&mut left, less.row_words() * row, set);
+            }
+        }
+    }
+    left
+}
+
 /// The addresses that have their bits in a match word (rule 3.7), ascending.
 pub fn marked(match_word: &[u64]) -> Vec<u32> {
     let words = (0..).zip(match_word).filter(|(_, &word)| word != 0);

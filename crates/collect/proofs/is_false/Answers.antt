@@ -3,7 +3,7 @@ use Rattle.std.proofs.Common.{ℕ, ◌<◌, ◌≡◌, sym, ap, ◌∙◌, arith
 use mathlib.Core.Bool.{not}
 use borrow.Author.Tests.{tests}
 use Rattle.words.proofs.Chains.{any-of-items, each-item}
-use Rattle.geometry.specs.Sizes.{sets, address_of, set_length}
+use Rattle.geometry.specs.Sizes.{address_of, set_length}
 use Rattle.geometry.proofs.Facts.{facts}
 use Rattle.geometry.proofs.Places.{address-lt}
 use Rattle.checks.specs.declared.lent.Tables.{Tables}
@@ -15,16 +15,16 @@ use Rattle.collect.proofs.FalseSets.{set-false}
 use Rattle.collect.proofs.is_false.Goals as goal
 
 -- the entry of a set at an offset is in the store
-stored : (t : Tables) (s o : ℕ) → s < sets t.layout.geometry → o < set_length t.layout.geometry s → (a : ℕ) → a ≡ address_of t.layout.geometry s o
+stored : (t : Tables) (s o : ℕ) → o < set_length t.layout.geometry s → (a : ℕ) → a ≡ address_of t.layout.geometry s o
     → a < length t.store.now
-stored t s o set offset a e =
-    omega (arith, t.lent.entries, address-lt t.layout.geometry (facts t.layout.geometry t.lent.sized.is-valid) s o set offset)
+stored t s o offset a e =
+    omega (arith, t.lent.entries, address-lt t.layout.geometry (facts t.layout.geometry t.lent.sized.is-valid) s o offset)
 
 pub any-requires-clause-callable : goal.any-requires-clause-callable
 any-requires-clause-callable c =
     let t = c.args.tables.now in
     each-item (set_length t.layout.geometry c.args.set.0) (walk-items _ _ _ _ _ _ c.offsets.ensures c.length.ensures)
-    (λ x q r. search rules) (λ x h. grind (arith, stored t c.args.set.0 _ c.requires.1 h))
+    (λ x q r. search rules) (λ x h. grind (arith, stored t c.args.set.0 _ h))
 
 pub returns : goal.returns
 returns c =

@@ -21,7 +21,7 @@ loop-at-init c =
 below : (c : After-address-address) → c.address-address.result.0 < c.args.tables.now.layout.geometry.depth
 below c =
     let f = facts _ c.args.tables.now.lent.sized.is-valid in
-    omega (arith, address-lt _ f _ c.in-Some.at.0 c.requires.1 (omega (arith, c.in-Some.ensures.steps)), c.address-address.ensures)
+    omega (arith, address-lt _ f c.args.set.0 c.in-Some.at.0 (omega (arith, c.in-Some.ensures.steps)), c.address-address.ensures)
 
 pub word-requires : goal.word-requires
 word-requires c = omega (arith, below (goal.at.word-requires c).After-address-address, c.args.tables.now.lent.entries)

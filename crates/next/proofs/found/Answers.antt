@@ -31,14 +31,13 @@ loop-at-init c =
     (tt, tt, rw (start.1, c.length.ensures, c.set-own.ensures), omega (arith, start.0, c.offset.ensures), own-start x.tables.now.layout.geometry (tables_in x.tables.now) x.address.0 x.key _ (from-offset ∙ add-one _))
 
 pub address-other-requires : goal.address-other-requires
-address-other-requires c =
-    (own-set (goal.at.address-other-requires c).After-set-own, rw c.set-own.ensures (omega (arith, c.in-Some.ensures.steps, c.loop-at.invariant.2)))
+address-other-requires c = rw c.set-own.ensures (omega (arith, c.in-Some.ensures.steps, c.loop-at.invariant.2))
 
 pub word-requires : goal.word-requires
 word-requires c =
     let t = c.args.tables.now in
     let inside = address-other-requires (goal.at.word-requires c).In-Some in
-    omega (arith, c.address-other.ensures, t.lent.entries, address-lt _ (facts _ t.lent.sized.is-valid) _ _ inside.0 inside.1)
+    omega (arith, c.address-other.ensures, t.lent.entries, address-lt _ (facts _ t.lent.sized.is-valid) _ _ inside)
 
 pub returns-then-word-key : goal.returns-then-word-key
 returns-then-word-key c =

@@ -7,9 +7,9 @@ use Rattle.resume.proofs.are_bad.Goals as goal
 pub returns-then-any_is_amiss : goal.returns-then-any_is_amiss
 returns-then-any_is_amiss c =
     let t = c.args.tables.now in
-    rw (looks-tell t.layout.geometry (facts _ t.layout.sized.is-valid) (tables_in t) t.lent.entries t.lent.words, ← c.any_is_amiss.ensures, c.if-any_is_amiss.true)
+    rw (looks-tell t.layout.geometry (facts _ t.layout.sized.is-valid) (tables_in t) t.lent.words, ← c.any_is_amiss.ensures, c.if-any_is_amiss.true)
 
 pub returns-else-any_is_amiss : goal.returns-else-any_is_amiss
 returns-else-any_is_amiss c =
     let t = c.args.tables.now in
-    rw (looks-tell t.layout.geometry (facts _ t.layout.sized.is-valid) (tables_in t) t.lent.entries t.lent.words, ← c.any_is_amiss.ensures, c.if-any_is_amiss.false) c.any_is_stale.ensures
+    rw (looks-tell t.layout.geometry (facts _ t.layout.sized.is-valid) (tables_in t) t.lent.words, ← c.any_is_amiss.ensures, c.if-any_is_amiss.false) c.any_is_stale.ensures

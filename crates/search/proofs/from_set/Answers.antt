@@ -49,21 +49,19 @@ word_read c e =
 pub address-requires : goal.address-requires
 address-requires c =
     let set = word_read (goal.at.address-requires c).Then-word-ne0 c.lowest-set.ensures in
-    (set.inside, rw c.first.ensures (length-pos _ (facts _ c.args.tables.now.lent.sized.is-valid) _ set.inside))
+    rw c.first.ensures (length-pos _ (facts _ c.args.tables.now.lent.sized.is-valid) _ set.inside)
 
 pub length-length-requires : goal.length-length-requires
 length-length-requires c = (word_read (goal.at.length-length-requires c).Then-word-ne0 c.lowest-set.ensures).inside
 
 pub address-address-requires : goal.address-address-requires
-address-address-requires c =
-    let set = word_read (goal.at.address-address-requires c).Then-word-ne0 c.lowest-set.ensures in
-    (set.inside, omega (arith, c.in-Some-at.ensures.steps))
+address-address-requires c = omega (arith, c.in-Some-at.ensures.steps)
 
 pub word-requires : goal.word-requires
 word-requires c =
     let t = c.args.tables.now in
     let inside = address-address-requires (goal.at.word-requires c).In-Some-at in
-    omega (arith, c.address-address.ensures, t.lent.entries, address-lt _ (facts _ t.lent.sized.is-valid) _ _ inside.0 inside.1)
+    omega (arith, c.address-address.ensures, t.lent.entries, address-lt _ (facts _ t.lent.sized.is-valid) _ _ inside)
 
 pub returns-in_default : goal.returns-in_default
 returns-in_default c = words-over _ _ _ _ _ _ c.words.invariant.4 (omega (arith, c.in_default.ensures.steps))
@@ -73,7 +71,7 @@ returns-then-ne c =
     let t = c.args.tables.now in
     let set = word_read (goal.at.returns-then-ne c).Then-word-ne0 c.lowest-set.ensures in
     let inside = address-requires (goal.at.returns-then-ne c).After-first in
-    set_found set t.lent.sized.is-valid (kind-other t.layout (search rules)) _ _ inside.1 c.address.ensures
+    set_found set t.lent.sized.is-valid (kind-other t.layout (search rules)) _ _ inside c.address.ensures
 
 pub returns-then-word-key : goal.returns-then-word-key
 returns-then-word-key c =
@@ -81,7 +79,7 @@ returns-then-word-key c =
     let set = word_read (goal.at.returns-then-word-key c).Then-word-ne0 c.lowest-set.ensures in
     let before = rw (← c.in-Some-at.ensures.steps.1) at c.loop-at.invariant.3 in
     let inside = address-address-requires (goal.at.returns-then-word-key c).In-Some-at in
-    entry_found set (kind-segmented t.layout (search rules)) _ before t.lent.sized.is-valid t.lent.entries inside.1
+    entry_found set (kind-segmented t.layout (search rules)) _ before t.lent.sized.is-valid t.lent.entries inside
     _ _ _ c.address-address.ensures c.word.ensures c.if-word-key.true (omega arith)
 
 pub returns-in-None : goal.returns-in-None

@@ -88,14 +88,13 @@ impl Array {
 
     /// The smallest address that has the key (rule 5.5), with w and c by formula (rule 5.7).
     fn first_match(&self, key: u32) -> Answer {
-        let set_width = self.geometry.set_width;
         for address in 0..self.geometry.depth {
             if self.entries[address as usize] == Some(key) {
                 return Answer::At {
                     address,
-                    words_read: address / (64 * set_width) + 1,
+                    words_read: address / (64 * self.geometry.set_width) + 1,
                     entries_compared: match self.geometry.kind {
-                        SEGMENTED => set_width,
+                        SEGMENTED => self.beside(address),
                         _ => 0,
                     },
                 };
@@ -105,6 +104,13 @@ impl Array {
             words_read: self.geometry.row_words() as u32,
             entries_compared: 0,
         }
+    }
+
+    /// How many addresses the set of this one has, itself among them.
+    fn beside(&self, address: u32) -> u32 {
+        let set = self.geometry.set_of(address);
+        let all = 0..self.geometry.depth;
+        all.filter(|&a| self.geometry.set_of(a) == set).count() as u32
     }
 
     /// The smallest address above this one that has the key, whatever this one has (rule 5.9).

@@ -1,10 +1,10 @@
-//! The cases of section 15 of docs/MEMORY.md under the names they have there, those at the limits,
-//! and the calls of examples/listing.txt.
+//! The cases of section 15 of docs/MEMORY.md under the names they have there, those at the limits
+//! and of last sets that are short, and the calls of examples/listing.txt.
 
 use crate::binary::call::Call;
 use crate::binary::lines::{
-    all, all_match, at, clear, erase, make, next, none, put, read, refused, script, walk_refused,
-    write, Line, Script,
+    all, all_match, at, clear, erase, indicators, make, next, none, put, read, refused, script,
+    walk_refused, write, Line, Script,
 };
 use crate::geometry::{geometry, Geometry, CASCADED, SEGMENTED, TRANSPOSED};
 
@@ -27,12 +27,14 @@ pub fn cases() -> Vec<Script> {
         listing(),
     ];
     cases.extend(depth_limits());
-    cases.push(set_width_limit());
+    cases.extend(set_width_limits());
     cases.extend(address_limits());
     cases.extend(pattern_limits());
     cases.extend(next_in_s());
     cases.extend(next_on_changed_tables());
     cases.extend([walk_of_three_words(), next_joined()]);
+    cases.extend(short_sets());
+    cases.extend(on_changed_short_sets());
     cases
 }
 
@@ -146,10 +148,19 @@ fn depth_limits() -> Vec<Script> {
     ]
 }
 
-/// In kind 1 a set is one address (rule 2.4).
-fn set_width_limit() -> Script {
+/// In kind 1 a set is one address; in kind 2 it may have all addresses, and is no wider (rule 2.4).
+fn set_width_limits() -> Vec<Script> {
     let k_with_w_2 = geometry(CASCADED, 2, 10, 2);
-    script("K with W 2", k_with_w_2, (2, 514), every_call_refused(1, 1))
+    let (widest, wider) = (geometry(SEGMENTED, 5, 1, 5), geometry(SEGMENTED, 5, 1, 6));
+    let widest_of_all = geometry(SEGMENTED, 63, 1, 64);
+    let one_set = [write(4, 1, None), at(1, 4, 1, 5), all(1, &[16], 1)];
+    let refuses = || every_call_refused(1, 1);
+    vec![
+        script("K with W 2", k_with_w_2, (2, 514), refuses()),
+        script("D 5, W 5", widest, (5, 2), from_clear([], one_set)),
+        script("D 5, W 6", wider, (5, 2), refuses()),
+        script("D 63, W 64", widest_of_all, (63, 2), refuses()),
+    ]
 }
 
 /// The last address of S, and the number behind it (row 3 of rule 9.1).
@@ -280,6 +291,156 @@ fn next_joined() -> Script {
         next(512, 0, None),
     ];
     script("K with D 3, next", g, (3, 514), from_clear(writes, asked))
+}
+
+/// A last set that is short (rule 2.7): c is its own length (rule 5.7), and there is nothing behind
+/// it, neither in the store nor for a match word.
+fn short_sets() -> Vec<Script> {
+    let short = |name, depth, set_width, words, lines: Vec<Line>| {
+        let g = geometry(SEGMENTED, depth, 1, set_width);
+        script(name, g, (depth as usize, words), lines)
+    };
+    vec![
+        on_t("D 5, W 2", from_clear([write(4, 3, None)], short_of_one())),
+        short("D 1,000, W 64", 1000, 64, 2, from_clear([], short_of_40())),
+        short("D 65, W 64", 65, 64, 2, from_clear([], behind_one())),
+        short("D 129, W 2", 129, 2, 4, from_clear([], in_second_word())),
+        short("D 4,096, W 63", 4096, 63, 4, from_clear([], last_of_all())),
+        short("D 7, W 4", 7, 4, 2, from_clear([], shared_in_short())),
+    ]
+}
+
+/// Fifteen sets of 64 addresses come before it.
+fn short_of_40() -> [Line; 11] {
+    let mut matches = [0; 16];
+    (matches[14], matches[15]) = (1 << 63, 1 << 39);
+    [
+        write(999, 1, None),
+        at(1, 999, 1, 40),
+        write(959, 1, None),
+        at(1, 959, 1, 64),
+        indicators(&[(1, 0xc000)]),
+        next(1, 959, Some(999)),
+        next(1, 960, Some(999)),
+        next(1, 999, None),
+        all(1, &matches, 2),
+        refused(write_call(1000, 1), 3),
+        refused(next_call(1000, 1), 3),
+    ]
+}
+
+/// One set of 64 addresses, and one of a single address.
+fn behind_one() -> [Line; 5] {
+    [
+        write(64, 0, None),
+        at(0, 64, 1, 1),
+        write(0, 0, None),
+        at(0, 0, 1, 64),
+        all(0, &[1, 1], 2),
+    ]
+}
+
+/// Of 65 sets the last has bit 0 of its row's second word.
+fn in_second_word() -> [Line; 8] {
+    [
+        write(128, 1, None),
+        at(1, 128, 2, 1),
+        all(1, &[0, 0, 1], 1),
+        indicators(&[(3, 1)]),
+        none(0, 2, 0),
+        write(127, 1, None),
+        at(1, 127, 1, 2),
+        next(1, 127, Some(128)),
+    ]
+}
+
+/// T has the sets of addresses 0 and 1, 2 and 3, and 4.
+fn on_t(name: &'static str, lines: Vec<Line>) -> Script {
+    script(name, geometry(SEGMENTED, 5, 2, 2), (5, 4), lines)
+}
+
+/// After the write of 3 at address 4, which has no neighbour.
+fn short_of_one() -> [Line; 11] {
+    [
+        at(3, 4, 1, 1),
+        all(3, &[16], 1),
+        indicators(&[(3, 4)]),
+        write(3, 3, None),
+        at(3, 3, 1, 2),
+        next(3, 3, Some(4)),
+        next(3, 4, None),
+        refused(Call::Read { address: 5 }, 3),
+        refused(Call::FirstMatch { key: u32::MAX }, 4),
+        erase(4, Some(3)),
+        indicators(&[(3, 2)]),
+    ]
+}
+
+/// Of 66 sets the last has the last address alone.
+fn last_of_all() -> [Line; 4] {
+    let mut matches = [0; 64];
+    matches[63] = 1 << 63;
+    [
+        write(4095, 1, None),
+        at(1, 4095, 2, 1),
+        all(1, &matches, 1),
+        indicators(&[(3, 2)]),
+    ]
+}
+
+/// Addresses 4 to 6 are neighbours, and 7 is none.
+fn shared_in_short() -> [Line; 12] {
+    [
+        write(4, 1, None),
+        write(6, 1, None),
+        next(1, 4, Some(6)),
+        write(4, 0, Some(1)),
+        at(1, 6, 1, 3),
+        write(4, 1, Some(0)),
+        write(6, 0, Some(1)),
+        at(1, 4, 1, 3),
+        at(0, 6, 1, 3),
+        erase(4, Some(1)),
+        none(1, 1, 0),
+        indicators(&[(0, 2)]),
+    ]
+}
+
+/// A short set may be false (rule 8.9), is asked without its bit (rule 8.13), and has padding beside
+/// its bit (rule 3.6).
+fn on_changed_short_sets() -> Vec<Script> {
+    let false_set = [
+        write(0, 3, None),
+        make(3, 5),
+        at(3, 0, 1, 2),
+        walk_refused(3, &[0], 6),
+        refused(next_call(2, 3), 6),
+        next(3, 4, None),
+        refused(all_match(3, &[9]), 6),
+        make(3, 4),
+        refused(Call::FirstMatch { key: 3 }, 6),
+    ];
+    let padding = [
+        make(3, 8),
+        none(3, 1, 0),
+        next(3, 0, None),
+        next(3, 4, None),
+        all(3, &[0], 0),
+    ];
+    let no_bit = [
+        write(4, 1, None),
+        write(6, 1, None),
+        make(1, 0),
+        next(1, 4, Some(6)),
+        next(1, 6, None),
+        none(1, 1, 0),
+    ];
+    let g = geometry(SEGMENTED, 7, 1, 4);
+    vec![
+        on_t("D 5, W 2, a false set", from_clear([], false_set)),
+        on_t("D 5, W 2, padding", from_clear([], padding)),
+        script("D 7, W 4, no bit", g, (7, 2), from_clear([], no_bit)),
+    ]
 }
 
 fn next_call(address: u32, key: u32) -> Call {

@@ -79,25 +79,33 @@ fn next_match(random: &mut Random, g: &Geometry, pool: &Pool) -> Call {
     }
 }
 
-/// Where there are sets at edges, often above one of them, for the pattern that they have; at times
-/// out of range in both numbers.
+/// Where there are sets at edges or a short one, often above one of them, for the pattern that they
+/// have; at times out of range in both numbers.
 fn next_match_on_edges(random: &mut Random, g: &Geometry, pool: &Pool) -> Call {
-    let set = random.pick(&[0, 63, 63, 64, 127, 127]);
-    match random.below(32) {
-        0 => Call::NextMatch {
-            address: g.depth + random.below(2),
-            key: g.patterns() + random.below(2),
-        },
-        1..=20 if set < g.sets() => Call::NextMatch {
+    let edge = random.pick(&[0, 63, 63, 64, 127, 127]);
+    let set = match random.below(32) {
+        0 => {
+            return Call::NextMatch {
+                address: g.depth + random.below(2),
+                key: g.patterns() + random.below(2),
+            }
+        }
+        1..=20 => Some(edge).filter(|&set| set < g.sets()),
+        21..=28 => g.short_set(),
+        _ => None,
+    };
+    match set {
+        Some(set) => Call::NextMatch {
             address: any_of_set(random, g, set),
             key: pool.patterns[0],
         },
-        _ => next_match(random, g, pool),
+        None => next_match(random, g, pool),
     }
 }
 
 fn any_of_set(random: &mut Random, g: &Geometry, set: usize) -> u32 {
-    g.addresses_of(set).start + random.below(g.set_width)
+    let addresses = g.addresses_of(set);
+    random.between(addresses.start, addresses.end - 1)
 }
 
 /// Clears have little to show on damaged tables, so they get no more than their share, and
@@ -136,7 +144,7 @@ pub fn damaged_tables(random: &mut Random, g: &Geometry, pool: &Pool) -> Tables 
 }
 
 /// Mostly some sets at edges get the first pattern of the pool: its bits, and in kind 2 often an
-/// entry, so that next-matches meet them.
+/// entry, so that next-matches meet them. A short set often gets it too.
 pub fn tables_of_single_calls(random: &mut Random, g: &Geometry, pool: &Pool) -> Tables {
     let mut tables = damaged_tables(random, g, pool);
     let pattern = pool.patterns[0];
@@ -153,7 +161,29 @@ pub fn tables_of_single_calls(random: &mut Random, g: &Geometry, pool: &Pool) ->
             }
         }
     }
+    if let Some(short) = g.short_set() {
+        fill_short_set(random, g, pattern, short, &mut tables);
+    }
     tables
+}
+
+/// An entry, the bit of the set and the padding bit beside it, or any of them without the others.
+fn fill_short_set(
+    random: &mut Random,
+    g: &Geometry,
+    pattern: u32,
+    short: usize,
+    tables: &mut Tables,
+) {
+    let row = g.row_start(pattern, 0);
+    if random.one_in(2) {
+        tables.store[any_of_set(random, g, short) as usize] = pattern;
+    }
+    for place in short..(short + 2).min(64 * g.row_words()) {
+        if random.one_in(3) {
+            set_bit(&mut tables.indicators, row, place);
+        }
+    }
 }
 
 /// An entry that is no pattern, or one that the indicators do not mirror.

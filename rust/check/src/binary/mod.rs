@@ -11,6 +11,7 @@ pub mod library;
 pub mod lines;
 mod next_subjects;
 mod required;
+pub mod short_subjects;
 mod steps;
 pub mod subjects;
 pub mod vectors;
@@ -24,7 +25,7 @@ use crate::pool::Pool;
 use crate::random::Random;
 use crate::shapes;
 use crate::subjects::Subject;
-use crate::tables::marked;
+use crate::tables::{bits_of_last_sets, marked, INDICATORS, STORE};
 use answer::Answer;
 use array::Array;
 use call::Call;
@@ -113,6 +114,14 @@ impl Family for Binary {
 
     fn erase(g: &Geometry, tables: &mut Tables, address: u32) {
         steps::step(g, tables, &Call::Erase { address });
+    }
+
+    fn without_first(g: &Geometry, tables: &Tables, less: &Geometry) -> Option<Tables> {
+        let fit = g.is_valid() && less.is_valid() && tables.fit(g);
+        fit.then(|| Tables {
+            store: STORE.table(&tables.store[(g.depth - less.depth) as usize..]),
+            indicators: INDICATORS.table(&bits_of_last_sets(g, &tables.indicators, less)),
+        })
     }
 
     fn met_by_step(g: &Geometry, before: &Tables, call: &Call, answer: &Answer) -> Vec<Subject> {

@@ -1,6 +1,6 @@
 //! What the random trials of the seven calls must meet.
 
-use crate::binary::{next_subjects, subjects};
+use crate::binary::{next_subjects, short_subjects, subjects};
 use crate::coverage::Required;
 use crate::geometry::SEGMENTED;
 use crate::subjects::BROKEN_RULES;
@@ -21,7 +21,11 @@ pub const OF_HISTORIES: Required = Required {
         ("all-match", &["refusal 2", "refusal 4", "no hits", "hits"]),
     ],
     occurs,
-    subjects: &[subjects::OF_HISTORIES, next_subjects::OF_HISTORIES],
+    subjects: &[
+        subjects::OF_HISTORIES,
+        next_subjects::OF_HISTORIES,
+        short_subjects::OF_HISTORIES,
+    ],
 };
 
 /// Of a single call that is given an address and no pattern.
@@ -92,5 +96,6 @@ pub const OF_SINGLE_CALLS: Required = Required {
         subjects::OF_SINGLE_CALLS,
         next_subjects::OF_SINGLE_CALLS,
         next_subjects::IN_EACH_KIND,
+        short_subjects::OF_SINGLE_CALLS,
     ],
 };

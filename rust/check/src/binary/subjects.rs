@@ -1,11 +1,11 @@
 //! The troubles that the random trials of the seven calls are made to meet, by name, and how each
-//! is recognised; those of next-matches are in `next_subjects`.
+//! is recognised; those of next-matches are in `next_subjects`, and those of a last set that is
+//! short in `short_subjects`.
 
 use crate::binary::answer::Answer;
 use crate::binary::array::Array;
 use crate::binary::call::Call;
-use crate::binary::next_subjects;
-use crate::binary::Tables;
+use crate::binary::{next_subjects, short_subjects, Tables};
 use crate::geometry::{Geometry, CASCADED, SEGMENTED};
 use crate::subjects::{alone, broken_rules, limits, those, Subject};
 use crate::tables::{in_every_row, EMPTY};
@@ -86,6 +86,13 @@ pub const OF_SINGLE_CALLS: &[Subject] = &[
 /// What a call of a history meets, from the array before it and the answer.
 pub fn of_history(before: &Array, call: &Call, answer: &Answer) -> Vec<Subject> {
     let (g, entries) = (&before.geometry(), before.entries());
+    let mut met = of_any_set(g, entries, call, answer);
+    met.extend(short_subjects::of_history(g, entries, call, answer));
+    met
+}
+
+/// The same but for those of a short last set.
+fn of_any_set(g: &Geometry, entries: &[Option<u32>], call: &Call, answer: &Answer) -> Vec<Subject> {
     let mut met = Vec::new();
     let mut add = |subject, is_met: bool| met.extend(is_met.then_some(subject));
     match (call, answer) {
@@ -107,7 +114,7 @@ pub fn of_history(before: &Array, call: &Call, answer: &Answer) -> Vec<Subject> 
             let (set, place) = (g.set_of(address), address % g.set_width);
             add(LATER_WORD, set >= 64);
             add(LATER_PLACE, place > 0);
-            add(EARLIER_PLACE, place + 1 < g.set_width);
+            add(EARLIER_PLACE, address + 1 < g.addresses_of(set).end);
             add(HELD_AGAIN, neighbour_holds(g, entries, address, key));
         }
         (&Call::FirstMatch { key }, Answer::NoMatch { .. }) => {
@@ -183,15 +190,24 @@ pub fn of_step(g: &Geometry, tables: &Tables, call: &Call, answer: &Answer) -> V
     match answer {
         Answer::Refused(1) => alone(broken_rules(g)),
         Answer::Refused(2) => alone(wrong_lengths(g, tables, call)),
-        _ => match *call {
-            Call::Write { address, pattern } => of_write(g, tables, address, pattern, answer),
-            Call::Erase { address } => of_replaced(g, tables, address, answer),
-            Call::FirstMatch { key } | Call::AllMatch { key, .. } => of_match(g, tables, key),
-            Call::NextMatch { address, key } => {
-                next_subjects::of_step(g, tables, (address, key), answer)
-            }
-            _ => Vec::new(),
-        },
+        _ => {
+            let mut met = of_call(g, tables, call, answer);
+            met.extend(short_subjects::of_step(g, tables, call, answer));
+            met
+        }
+    }
+}
+
+/// What a call meets on tables of the right lengths.
+fn of_call(g: &Geometry, tables: &Tables, call: &Call, answer: &Answer) -> Vec<Subject> {
+    match *call {
+        Call::Write { address, pattern } => of_write(g, tables, address, pattern, answer),
+        Call::Erase { address } => of_replaced(g, tables, address, answer),
+        Call::FirstMatch { key } | Call::AllMatch { key, .. } => of_match(g, tables, key),
+        Call::NextMatch { address, key } => {
+            next_subjects::of_step(g, tables, (address, key), answer)
+        }
+        _ => Vec::new(),
     }
 }
 

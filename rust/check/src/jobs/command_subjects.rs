@@ -2,6 +2,7 @@
 
 use crate::binary::answer::Answer;
 use crate::binary::call::Call;
+use crate::binary::short_subjects::{FIRST, FIRST_OF_ONE, SHARED, WORD_GOES_ON};
 use crate::binary::subjects::{
     ADDRESS_AND_PATTERN, CLEARED_LATER, EARLIER_PLACE, HELD_AGAIN, LATER_PLACE, LATER_WORD,
     WORDS_OF_HITS,
@@ -58,6 +59,10 @@ pub const OF_COMMANDS: &[Subject] = &[
     EARLIER_PLACE,
     HELD_AGAIN,
     WORDS_OF_HITS,
+    FIRST,
+    FIRST_OF_ONE,
+    SHARED,
+    WORD_GOES_ON,
 ];
 
 /// What a command meets that stops with 8.

@@ -12,27 +12,29 @@ use crate::shapes::{break_rule, random_geometry};
 pub const MOST_COMMANDS: usize = (LONGEST_FILE - HEADER) / COMMAND;
 
 /// As deep as a job may be, and with as many indicator words as it may have.
-const DEEP: [Geometry; 6] = [
+const DEEP: [Geometry; 7] = [
     geometry(TRANSPOSED, 1024, 8, 1),
     geometry(CASCADED, 1024, 8, 1),
     geometry(SEGMENTED, 1024, 8, 1),
     geometry(SEGMENTED, 1024, 11, 8),
     geometry(SEGMENTED, 1024, 12, 16),
     geometry(SEGMENTED, 1024, 12, 64),
+    geometry(SEGMENTED, 1024, 12, 63),
 ];
 
 /// As many indicator words as a job may have, and the cascaded kind at its widest.
-const LARGEST: [Geometry; 6] = [
+const LARGEST: [Geometry; 7] = [
     geometry(TRANSPOSED, 64, 12, 1),
     geometry(TRANSPOSED, 512, 9, 1),
     geometry(CASCADED, 512, 9, 1),
     geometry(CASCADED, 256, 18, 1),
     geometry(CASCADED, 128, 27, 1),
     geometry(SEGMENTED, 128, 12, 2),
+    geometry(SEGMENTED, 127, 12, 2),
 ];
 
 /// Just over a limit: stop 9.
-const TOO_LARGE: [Geometry; 9] = [
+const TOO_LARGE: [Geometry; 10] = [
     geometry(TRANSPOSED, 1025, 1, 1),
     geometry(CASCADED, 1025, 7, 1),
     geometry(SEGMENTED, 1025, 7, 25),
@@ -42,6 +44,7 @@ const TOO_LARGE: [Geometry; 9] = [
     geometry(CASCADED, 1024, 9, 1),
     geometry(SEGMENTED, 1024, 9, 1),
     geometry(SEGMENTED, 130, 12, 2),
+    geometry(SEGMENTED, 129, 12, 2),
 ];
 
 pub fn random_job(random: &mut Random) -> Job {

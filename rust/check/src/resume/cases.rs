@@ -36,6 +36,7 @@ pub fn cases() -> Vec<Script> {
     cases.extend(wrong_bits());
     cases.extend(wrong_entries());
     cases.extend(wrong_stages());
+    cases.extend(short_sets());
     cases.extend(earlier_refusals());
     cases.extend(largest());
     cases
@@ -166,10 +167,36 @@ fn wrong_stages() -> Vec<Script> {
     ]
 }
 
+/// The last set is address 4 alone: its bit in the row of 3 is bit 2 of word 3.
+fn short_sets() -> Vec<Script> {
+    let on_t = |name, store: &[Entry], indicators: &[Bits], lines| {
+        let g = geometry(SEGMENTED, 5, 2, 2);
+        on(name, g, (5, 4), (store, indicators), lines)
+    };
+    let refuses = || vec![refused(10)];
+    let held = [(4, 3)];
+    let taken_over = vec![
+        resumed(),
+        seven(lines::at(3, 4, 1, 1)),
+        seven(lines::next(3, 1, Some(4))),
+        seven(lines::erase(4, Some(3))),
+        seven(lines::none(3, 1, 0)),
+        resumed(),
+    ];
+    vec![
+        on_t("resume of D 5, W 2", &held, &[(3, 4)], taken_over),
+        on_t("resume of D 5, W 2, no bit", &held, &[], refuses()),
+        on_t("resume of D 5, W 2, no entry", &[], &[(3, 4)], refuses()),
+        on_t("resume of D 5, W 2, padding", &held, &[(3, 12)], refuses()),
+        on_t("resume of D 5, W 2, 4: 4", &[(4, 4)], &[], refuses()),
+    ]
+}
+
 /// What is wrong with the tables comes last (rule 9.3).
 fn earlier_refusals() -> Vec<Script> {
     let (none, bad): (&[Entry], &[Entry]) = (&[], &[(0, 4)]);
     let wide_sets = geometry(CASCADED, 2, 10, 2);
+    let (too_wide, sets_65) = (geometry(SEGMENTED, 5, 2, 6), geometry(SEGMENTED, 129, 1, 2));
     let refusal = |name, g, lengths, store, number| {
         let words: (&[Entry], &[Bits]) = (store, &[]);
         on(name, g, lengths, words, vec![refused(number)])
@@ -180,6 +207,8 @@ fn earlier_refusals() -> Vec<Script> {
         refusal("resume of S, 5 words, 0: 4", S, (8, 5), bad, 2),
         refusal("resume of K with W 2", wide_sets, (2, 514), none, 1),
         refusal("resume of K with W 2, 5 words", wide_sets, (2, 5), none, 1),
+        refusal("resume of D 5, W 6", too_wide, (5, 4), none, 1),
+        refusal("resume of D 129, W 2, 2 words", sets_65, (129, 2), none, 2),
     ]
 }
 
@@ -204,5 +233,6 @@ fn largest() -> Vec<Script> {
         full("resume, D 4,096, kind 1", geometry(CASCADED, 4096, 27, 1)),
         full("resume, D 4,096, kind 2", geometry(SEGMENTED, 4096, 12, 1)),
         full("resume, D 4,096, W 64", geometry(SEGMENTED, 4096, 12, 64)),
+        full("resume, D 4,096, W 63", geometry(SEGMENTED, 4096, 12, 63)),
     ]
 }

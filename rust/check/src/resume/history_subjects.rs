@@ -15,6 +15,8 @@ const FOUND: InEachKind = in_each_kind!("an entry found that a resume took over"
 const OVERWRITTEN: InEachKind = in_each_kind!("an entry overwritten that a resume took over");
 const ERASED: InEachKind = in_each_kind!("an entry erased that a resume took over");
 const SHARED: Subject = "an entry overwritten that a resume took over and a neighbour holds too";
+const SHORT_FOUND: Subject = "an entry found in a short last set that a resume took over";
+const SHORT_ERASED: Subject = "an entry erased in a short last set that a resume took over";
 
 pub const OF_HISTORIES: &[&[Subject]] = &[
     &BEGUN_EMPTY,
@@ -24,7 +26,7 @@ pub const OF_HISTORIES: &[&[Subject]] = &[
     &FOUND,
     &OVERWRITTEN,
     &ERASED,
-    &[SHARED],
+    &[SHARED, SHORT_FOUND, SHORT_ERASED],
 ];
 
 /// What a call of a history meets, from its course before it and the answer.
@@ -52,18 +54,21 @@ fn of_seven(before: &Course, call: &SevenCalls, answer: &OfTheSeven) -> Vec<Subj
     let (g, entries) = (&before.array().geometry(), before.array().entries());
     let kind = g.kind as usize;
     let taken_over = |address| before.is_taken_over(address);
+    let short = |address| taken_over(address) && Some(g.set_of(address)) == g.short_set();
     match (call, answer) {
-        (SevenCalls::FirstMatch { .. }, &OfTheSeven::At { address, .. }) => {
-            those(&[(taken_over(address), FOUND[kind])])
-        }
+        (SevenCalls::FirstMatch { .. }, &OfTheSeven::At { address, .. }) => those(&[
+            (taken_over(address), FOUND[kind]),
+            (short(address), SHORT_FOUND),
+        ]),
         (&SevenCalls::Write { address, pattern }, &OfTheSeven::Entry(Some(q))) => {
             let over = taken_over(address) && pattern != q;
             let shared = neighbour_holds(g, entries, address, q);
             those(&[(over, OVERWRITTEN[kind]), (over && shared, SHARED)])
         }
-        (&SevenCalls::Erase { address }, OfTheSeven::Entry(Some(_))) => {
-            those(&[(taken_over(address), ERASED[kind])])
-        }
+        (&SevenCalls::Erase { address }, OfTheSeven::Entry(Some(_))) => those(&[
+            (taken_over(address), ERASED[kind]),
+            (short(address), SHORT_ERASED),
+        ]),
         _ => Vec::new(),
     }
 }

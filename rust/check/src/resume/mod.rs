@@ -92,6 +92,10 @@ impl Family for Resume {
         Binary::erase(g, tables, address);
     }
 
+    fn without_first(g: &Geometry, tables: &Tables, less: &Geometry) -> Option<Tables> {
+        Binary::without_first(g, tables, less)
+    }
+
     fn met_by_step(g: &Geometry, before: &Tables, _: &Call, answer: &Answer) -> Vec<Subject> {
         subjects::of_resume(g, before, answer)
     }

@@ -17,6 +17,8 @@ const SOME_HELD: InEachKind = in_each_kind!("accepted, some addresses hold somet
 const ALL_HELD: InEachKind = in_each_kind!("accepted, every address holds something");
 const NO_PADDING: InEachKind = in_each_kind!("accepted, no row has padding");
 const HELD_TWICE: Subject = "accepted, a set holds a pattern twice";
+const SHORT_HELD: Subject = "accepted, a short last set holds something";
+const SHORT_TWICE: Subject = "accepted, a short last set holds a pattern twice";
 
 const PADDING: InEachKind = in_each_kind!("one wrong bit, of the padding");
 const STALE: InEachKind = in_each_kind!("one wrong bit, 1 where no entry covers the row");
@@ -32,6 +34,9 @@ const LAST_WORD: InEachKind = in_each_kind!("one wrong bit, in the last word");
 const LATER_WORD: InEachKind = in_each_kind!("one wrong bit, past the first word of its row");
 const STALE_STAGE: Subject = "one wrong bit, 1 in a later stage than the first";
 const MISSING_STAGE: Subject = "one wrong bit, 0 in a later stage than the first";
+const SHORT_STALE: Subject = "one wrong bit, 1 for a short last set";
+const SHORT_MISSING: Subject = "one wrong bit, 0 for a short last set";
+const SHORT_PADDING: Subject = "one wrong bit, of the padding beside that of a short last set";
 
 const NO_PATTERN: InEachKind = in_each_kind!("one wrong entry, no pattern, every bit right");
 const OVER_PATTERN: InEachKind = in_each_kind!("one wrong entry, no pattern in place of one");
@@ -66,7 +71,7 @@ pub const OF_RESUMES: &[&[Subject]] = &[
     &SOME_HELD,
     &ALL_HELD,
     &NO_PADDING,
-    &[HELD_TWICE],
+    &[HELD_TWICE, SHORT_HELD, SHORT_TWICE],
     &PADDING,
     &STALE,
     &MISSING,
@@ -80,6 +85,7 @@ pub const OF_RESUMES: &[&[Subject]] = &[
     &LAST_WORD,
     &LATER_WORD,
     &[STALE_STAGE, MISSING_STAGE],
+    &[SHORT_STALE, SHORT_MISSING, SHORT_PADDING],
     &NO_PATTERN,
     &OVER_PATTERN,
     &ANOTHER,
@@ -143,16 +149,20 @@ fn of_accepted(g: &Geometry, tables: &Tables) -> Vec<Subject> {
     let kind = g.kind as usize;
     let held = tables.store.iter().filter(|&&word| word != EMPTY).count();
     let (nothing, all) = (held == 0, held == tables.store.len());
+    let holds = |a: u32| tables.store[a as usize] != EMPTY;
     let twice = |a: u32| {
         let word = tables.store[a as usize];
-        word != EMPTY && holders(g, tables, g.set_of(a), word) > 1
+        holds(a) && holders(g, tables, g.set_of(a), word) > 1
     };
+    let mut short = g.short_set().map_or(0..0, |set| g.addresses_of(set));
     those(&[
         (nothing, NOTHING_HELD[kind]),
         (!nothing && !all, SOME_HELD[kind]),
         (all, ALL_HELD[kind]),
         (!nothing && g.sets() % 64 == 0, NO_PADDING[kind]),
         ((0..g.depth).any(twice), HELD_TWICE),
+        (short.clone().any(holds), SHORT_HELD),
+        (short.any(twice), SHORT_TWICE),
     ])
 }
 
@@ -172,6 +182,7 @@ fn of_one_bit(g: &Geometry, tables: &Tables, bit: &Bit) -> Vec<Subject> {
     let padding = bit.place >= sets;
     let (stale, missing) = (bit.is_one && !padding, !bit.is_one);
     let (first, last) = (bit.place == 0, bit.place + 1 == sets);
+    let short = g.short_set().is_some();
     those(&[
         (padding, PADDING[kind]),
         (bit.place == sets, FIRST_PADDING[kind]),
@@ -185,6 +196,9 @@ fn of_one_bit(g: &Geometry, tables: &Tables, bit: &Bit) -> Vec<Subject> {
         (missing && bit.stage > 0, MISSING_STAGE),
         (bit.place % 64 == 63 && !padding, BIT_63[kind]),
         (bit.place >= 64, LATER_WORD[kind]),
+        (stale && last && short, SHORT_STALE),
+        (missing && last && short, SHORT_MISSING),
+        (bit.place == sets && short, SHORT_PADDING),
         (bit.word == 0 && words > 1, FIRST_WORD[kind]),
         (bit.word + 1 == words && words > 1, LAST_WORD[kind]),
     ])

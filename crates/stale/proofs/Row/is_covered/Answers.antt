@@ -5,17 +5,15 @@ use Rattle.words.proofs.Rules.{outside-past, outside_below}
 use Rattle.geometry.specs.Sizes.{address_of, set_length}
 use Rattle.geometry.proofs.Facts.{facts}
 use Rattle.cover.specs.Image.{covered}
+use Rattle.cover.proofs.Image.{uncovered}
 use Rattle.places.proofs.Walking.{walk-items}
-use Rattle.calls.specs.Answers.{tables_in}
 use Rattle.stale.specs.Rows.{geometry_of, number, cover_of}
-use Rattle.stale.proofs.Covered.{past-covered}
 use Rattle.stale.proofs.Row.is_covered.Goals as goal
 
 pub returns-then-is_outside : goal.returns-then-is_outside
 returns-then-is_outside c =
-    let t = c.args.self.now.tables.now in
-    let z = t.layout.sized in
-    sym (past-covered _ (facts _ z.is-valid) (tables_in t) t.lent.entries _ _ (outside-past c.is_outside.ensures z.same-sets c.if-is_outside.true))
+    let z = c.args.self.now.tables.now.layout.sized in
+    sym (uncovered _ (facts _ z.is-valid) _ _ _ (outside-past c.is_outside.ensures z.same-sets c.if-is_outside.true))
 
 pub any-requires-clause-callable : goal.any-requires-clause-callable
 any-requires-clause-callable c =

@@ -7,4 +7,4 @@ use Rattle.stale.proofs.Row.is_covered_at.Goals as goal
 pub word-requires : goal.word-requires
 word-requires c =
     let t = c.args.self.now.tables.now in
-    omega (arith, c.address.ensures, t.lent.entries, address-lt _ (facts _ t.layout.sized.is-valid) _ _ c.requires.0 c.requires.1)
+    omega (arith, c.address.ensures, t.lent.entries, address-lt _ (facts _ t.layout.sized.is-valid) _ _ c.requires)

@@ -15,7 +15,7 @@ any-requires-clause-callable c =
     let t = c.args.self.now in
     let length = set_length t.layout.geometry c.set-set.result.0 in
     each-item length (walk-items _ _ _ _ _ _ c.offsets.ensures c.length.ensures) (λ x q r. search rules)
-    (λ x h. grind (arith, set-there t c.set-set.ensures, address-there t c.set-set.ensures x.0 h))
+    (λ x h. grind (arith, address-there t c.set-set.ensures x.0 h))
 
 pub returns : goal.returns
 returns c =

@@ -42,8 +42,8 @@ module _ (g : Geometry) (f : Facts g) (cover : Cover) where
 
   -- past the last set nothing is covered, so padding bits of the image are 0 (rule 6.3 of docs/MEMORY.md)
   pub uncovered : (r s : ℕ) → sets g ≤ s → covered g cover r s ≡ false
-  unfolding covered
-  uncovered r s past = rw (length-past g f s past) (any_false 0 _ (λ o l. absurd (omega arith)))
+  unfolding covered any
+  uncovered r s past = rw (length-past g f s past)
 
   pub image-padding : (r j b : ℕ) → r < rows g → j < row_words g → sets g ≤ 64 * j + b → cell g (image g cover) r j b ≡ false
   image-padding r j b hr hj past = image-cell r j b hr hj ∙ rw (uncovered r (64 * j + b) past) (and-false (ltb b 64))

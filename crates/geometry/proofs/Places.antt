@@ -32,7 +32,7 @@ module _ (g : Geometry) (f : Facts g) where
   unfolding set_length
   length-pos s h = omega (arith, f.set-pos, set-begins s h)
 
-  -- the last set has what the others leave of the depth, and each of these has as many as the set width says
+  -- the last set has what the others leave of the depth, and each of these the set width (rule 2.7 of docs/MEMORY.md)
   pub last-set-length : set_length g (sets g - 1) ≡ g.depth - g.set_width * (sets g - 1)
   unfolding set_length
   last-set-length =

@@ -90,12 +90,10 @@ module _ (g : Geometry) (f : Facts g) (t : Tables) (full : length t.indicators �
     -- what an entry of a set covers, the indicators have
     covered-bit : (r s : ℕ) → covered g (store_cover g t) r s ≡ true → cell g t.indicators r (s / 64) (s % 64) ≡ true
     unfolding covered is_amiss
-    covered-bit r s h = of_entry (any-witness (set_length g s) _ h)
-      where
-        of_entry : (o : ℕ) × (o < set_length g s) × (covers g (stored_entry g t (address_of g s o)) r ≡ true) → cell g t.indicators r (s / 64) (s % 64) ≡ true
-        of_entry (o, l, c) =
-            let parts = (or-eq-false-eq-eq-false-and-eq-false (bad_entry g t (address_of g s o)) _).0 (amiss (address_of g s o) (address-lt g f s o l)) in
-            none-lacking s r (stored_entry g t (address_of g s o)) (rw (set-of g f s o l) at parts.1) c
+    covered-bit r s h =
+        let (o, l, c) = any-witness (set_length g s) _ h in
+        let parts = (or-eq-false-eq-eq-false-and-eq-false (bad_entry g t (address_of g s o)) _).0 (amiss (address_of g s o) (address-lt g f s o l)) in
+        none-lacking s r (stored_entry g t (address_of g s o)) (rw (set-of g f s o l) at parts.1) c
 
     -- a word has no bit that the image has not, and each that it has
     word_same : (r j : ℕ) → r < rows g → j < row_words g → get_or t.indicators (row_words g * r + j) 0 ≡ image_word g (store_cover g t) r j

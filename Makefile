@@ -1,11 +1,13 @@
 # make run JOB=FILE   prints the report of a job: a text for tools/camjob or a job file, told apart by what is in it
 # make check-core CORE=FILE [QUICK=1] [OUT=FOLDER]   holds another core (.c, .rs or .a) to the rules; see tools/checkcore --help
+# make fit            proves and builds the program for fitters, target/bin/camfit; see its --help
 # make test           runs all tests
 
 # The goals that there are, and the variables that each takes. Anything else on the command line is a slip, as JOBS=x is, and must not
 # be passed over. Of the environment it cannot be told what is meant for us.
 takes_run := JOB
 takes_test :=
+takes_fit :=
 takes_check-core := CORE QUICK OUT
 
 goals := $(or $(MAKECMDGOALS),run)
@@ -26,7 +28,7 @@ JOB ?= examples/listing.txt
 unexport JOB
 export job_file := $(value JOB)
 
-.PHONY: run check-core test
+.PHONY: run check-core fit test
 
 run:
 	@exec tools/run "$$job_file"
@@ -38,6 +40,9 @@ check-core: export CHECKED_CORE := $(value CORE)
 check-core: export CHECKED_OUT := $(value OUT)
 check-core:
 	@exec tools/checkcore $(if $(filter-out 0,$(QUICK)),--quick) --out="$$CHECKED_OUT" -- "$$CHECKED_CORE"
+
+fit:
+	@exec tools/build camfit
 
 test:
 	@bash .ci/run

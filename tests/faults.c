@@ -1,7 +1,10 @@
-/* Loaded before the C library, so that a program's calls on its standard input and output, and its syncing of a file, go wrong as
-   FAULT says. None of them moves more than a hundred bytes. */
+/* Loaded before the C library, so that a program's calls on its standard input and output, and its syncing and renaming of files, go
+   wrong as FAULT says. None of the former moves more than a hundred bytes. */
 #define _GNU_SOURCE
 #include <errno.h>
+#include <fcntl.h>
+#include <signal.h>
+#include <stdio.h>
 #include <stdlib.h>
 #include <string.h>
 #include <sys/syscall.h>
@@ -9,7 +12,7 @@
 
 enum { PIECE = 100 };
 static const char *fault = "";
-static unsigned long reads, writes;
+static unsigned long reads, writes, renames;
 
 __attribute__((constructor)) static void begin(void) {
     const char *given = getenv("FAULT");
@@ -68,6 +71,20 @@ ssize_t write(int fd, const void *buf, size_t count) {
 int fdatasync(int fd) {
     long synced = syscall(SYS_fdatasync, fd);
     return is("sync fails") ? (int)fail(ENOSPC) : (int)synced;
+}
+
+int rename(const char *from, const char *to) {
+    renames++;
+    if (is("second rename fails") && renames == 2) {
+        return (int)fail(EPERM);
+    }
+    if (is("signals at the second rename") && renames == 2) {
+        const int signals[] = {SIGHUP, SIGINT, SIGTERM};
+        for (int i = 0; i < 3; i++) {
+            raise(signals[i]);
+        }
+    }
+    return (int)syscall(SYS_renameat2, AT_FDCWD, from, AT_FDCWD, to, 0);
 }
 
 /* Not waiting: only how often it is called counts. */

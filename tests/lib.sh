@@ -47,9 +47,10 @@ copy_up_to() {
     done
 }
 
-# What tools/build proves and builds: `library` and `camrun`.
+# What tools/build proves and builds: `library`, `camrun` and `camfit`.
 archive=target/staticlib/libcam_abi.a
 camrun=target/bin/camrun
+camfit=target/bin/camfit
 
 total() {
     echo "$passed passed, $failed failed"

@@ -87,7 +87,7 @@ impl Geometry {
     }
 
     /// A row for each value of the stage (rules 4.1 and 4.4).
-    fn stage_rows(&self, stage: u32) -> usize {
+    pub fn stage_rows(&self, stage: u32) -> usize {
         let last = stage + 1 == self.stages();
         let width = match (self.kind, last) {
             (CASCADED, false) => 9,
@@ -116,6 +116,14 @@ impl Geometry {
     pub fn row_start(&self, pattern: u32, stage: u32) -> usize {
         let r = self.row_words();
         r * 512 * stage as usize + r * self.stage_value(pattern, stage)
+    }
+
+    /// The first line of a report (rule 14.1), with which a text for `tools/camjob` begins too.
+    pub fn line(&self) -> String {
+        format!(
+            "kind {} depth {} width {} set {}",
+            self.kind, self.depth, self.pattern_width, self.set_width
+        )
     }
 }
 

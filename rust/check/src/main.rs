@@ -3,11 +3,13 @@
 //! `binary` is the family of the seven calls, `resume` has the resume beside them, `jobs` has the
 //! job files and what is printed for them. It runs the cases of docs/MEMORY.md, examples from
 //! elsewhere, random histories from an accepted clear, random single calls on damaged tables,
-//! random resumes, random histories that resumes begin and cut, and random jobs.
+//! random resumes, random histories that resumes begin and cut, and random jobs. `fit` holds the
+//! program `camfit` to the same writing, where that is asked for.
 
 mod binary;
 mod coverage;
 mod family;
+mod fit;
 mod generate;
 mod geometry;
 mod jobs;
@@ -88,9 +90,11 @@ pub fn main() -> ExitCode {
     if let Some(task) = &options.tables {
         return ended(jobs::tables::run(task, options.trace));
     }
+    if let Some(program) = &options.camfit {
+        return fit::run(program, options.seed).map_or_else(not_ready, ended);
+    }
     if let Err(what) = parts.iter().try_for_each(|part| part.ready(&options)) {
-        eprintln!("{what}");
-        return ExitCode::from(2);
+        return not_ready(what);
     }
     let run = || match options.only_one {
         true => run_only(&options, &parts),
@@ -101,6 +105,11 @@ pub fn main() -> ExitCode {
         None => run(),
     };
     ended(counts)
+}
+
+fn not_ready(what: String) -> ExitCode {
+    eprintln!("{what}");
+    ExitCode::from(2)
 }
 
 fn ended(counts: Counts) -> ExitCode {

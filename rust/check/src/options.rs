@@ -36,6 +36,8 @@ const LAST_LINES: &str = "
   --write-tables FOLDER
                      write the right ones: NAME.store and NAME.indicators beside each NAME.job that
                      is not stopped whole
+  --camfit PATH      run the program camfit on small boards, hold all that it prints and writes to the
+                     second writing, and do nothing else; each time that it is run counts one
   --trace            print the name or number of each trial before it runs, to find one that crashes
   --quick            a tenth of the random trials, and no job, where no number is given
   --brief            do not print how often each thing was met
@@ -74,6 +76,8 @@ pub struct Options {
     pub only_one: bool,
     pub camrun: PathBuf,
     pub tables: Option<Task>,
+    /// The program to hold to the second writing, where nothing else is asked for.
+    pub camfit: Option<PathBuf>,
     pub trace: bool,
     pub quick: bool,
     pub brief: bool,
@@ -94,6 +98,7 @@ impl Default for Options {
             only_one: false,
             camrun: PathBuf::from("target/bin/camrun"),
             tables: None,
+            camfit: None,
             trace: false,
             quick: false,
             brief: false,
@@ -123,6 +128,7 @@ impl Options {
                 "--camrun" => options.camrun = Path::new(".").join(value()?),
                 "--tables" => options.tables = Some(Task::Compare(value()?.into())),
                 "--write-tables" => options.tables = Some(Task::Write(value()?.into())),
+                "--camfit" => options.camfit = Some(value()?.into()),
                 "--trace" => options.trace = true,
                 "--quick" => options.quick = true,
                 "--brief" => options.brief = true,

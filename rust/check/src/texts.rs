@@ -45,19 +45,12 @@ pub fn of_history<F: Histories>(
     }
     lines.extend(stop(&trial.geometry, &commands));
     let comments: String = lines.iter().map(|line| comment(line)).collect();
-    Some(comments + &geometry_line(&trial.geometry) + &commands)
+    Some(format!("{comments}{}\n{commands}", trial.geometry.line()))
 }
 
 /// A comment of one line, whatever the words.
 fn comment(words: &str) -> String {
     format!("# {}\n", words.replace('\n', " "))
-}
-
-fn geometry_line(g: &Geometry) -> String {
-    format!(
-        "kind {} depth {} width {} set {}\n",
-        g.kind, g.depth, g.pattern_width, g.set_width
-    )
 }
 
 /// What the tables held that no job can have before its first command.

@@ -3,11 +3,11 @@
 
 mod camrun;
 mod command_subjects;
-mod difference;
+pub mod difference;
 mod file_subjects;
-mod generate;
-mod job;
-mod report;
+pub mod generate;
+pub mod job;
+pub mod report;
 pub mod tables;
 
 use crate::coverage::Required;

@@ -1,4 +1,5 @@
-//! What `camrun` prints for a job: rules 14.1 to 14.3 of docs/MEMORY.md.
+//! What `camrun` prints for a job: rules 14.1 to 14.3 of docs/MEMORY.md. The line of a next-match is
+//! that of other programs: no command of a job file is one.
 
 use crate::binary::answer::Answer;
 use crate::binary::array::Array;
@@ -16,10 +17,7 @@ pub fn report(job: &Job, tally: &mut Tally) -> String {
         Ok(header) => header.geometry,
         Err(number) => return format!("job no {number}\n"),
     };
-    let mut text = format!(
-        "kind {} depth {} width {} set {}\n",
-        g.kind, g.depth, g.pattern_width, g.set_width
-    );
+    let mut text = g.line() + "\n";
     // As after a clear (rule 13.5).
     let mut array = Array::empty(g);
     for (number, command) in job.commands().iter().enumerate() {
@@ -51,7 +49,7 @@ fn answer(array: &mut Array, number: usize, command: &Command, tally: &mut Tally
 }
 
 /// What follows the command's number (rule 14.2).
-fn items(answer: &Answer) -> String {
+pub fn items(answer: &Answer) -> String {
     match answer {
         Answer::Refused(number) => format!("no {number}"),
         Answer::Cleared => "clear".to_string(),
@@ -66,7 +64,8 @@ fn items(answer: &Answer) -> String {
             words_read: w,
             entries_compared: c,
         } => format!("none w {w} c {c}"),
-        Answer::Next(_) => unreachable!("no command is a next-match"),
+        Answer::Next(None) => "none".to_string(),
+        Answer::Next(Some(address)) => format!("at {address}"),
         Answer::Matches { matches, hits } => {
             let mut text = format!("hits {hits}");
             for word in matches.iter() {

@@ -10,7 +10,7 @@ mod generate;
 mod history_subjects;
 pub mod library;
 mod required;
-mod step;
+pub mod step;
 mod subjects;
 
 pub use answer::Answer;

@@ -73,9 +73,21 @@ int fdatasync(int fd) {
     return is("sync fails") ? (int)fail(ENOSPC) : (int)synced;
 }
 
+int fsync(int fd) {
+    long synced = syscall(SYS_fsync, fd);
+    return is("sync fails") ? (int)fail(ENOSPC) : (int)synced;
+}
+
+int linkat(int from_folder, const char *from, int to_folder, const char *to, int flags) {
+    if (is("no second names")) {
+        return (int)fail(EPERM);
+    }
+    return (int)syscall(SYS_linkat, from_folder, from, to_folder, to, flags);
+}
+
 int rename(const char *from, const char *to) {
     renames++;
-    if (is("second rename fails") && renames == 2) {
+    if ((is("second rename fails") || is("no second names")) && renames == 2) {
         return (int)fail(EPERM);
     }
     if (is("signals at the second rename") && renames == 2) {

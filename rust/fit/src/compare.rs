@@ -13,17 +13,24 @@ pub struct Wrong {
 /// A word that is wrong, by its number.
 enum Fault {
     /// Another entry than the model's.
-    Entry(usize, [u32; 2]),
+    Entry(usize, Entries),
     /// No entry at all.
     NoEntry(usize, u32),
     Bits(usize, Bits),
+}
+
+/// A word of the store as the model has it and as the board has it.
+#[derive(Clone, Copy)]
+struct Entries {
+    model: u32,
+    board: u32,
 }
 
 /// The words in which the board's tables are not the model's.
 pub fn differences(model: &Tables, board: &Tables) -> Wrong {
     let store = model.store.iter().zip(&board.store).enumerate();
     let store = store.filter(|(_, (model, board))| model != board);
-    let store = store.map(|(at, (&model, &board))| Fault::Entry(at, [model, board]));
+    let store = store.map(|(at, (&model, &board))| Fault::Entry(at, Entries { model, board }));
     Wrong {
         names: Names::new(board.geometry),
         faults: store
@@ -72,7 +79,7 @@ impl Wrong {
 
     fn line(&self, fault: &Fault) -> String {
         match *fault {
-            Fault::Entry(at, [model, board]) => {
+            Fault::Entry(at, Entries { model, board }) => {
                 format!("store word {at}: model {model:08x} board {board:08x}, address {at}")
             }
             Fault::NoEntry(at, board) => format!(

@@ -12,13 +12,9 @@ const MOST_BYTES: u64 = 64 << 20;
 pub fn shown(name: &Path) -> String {
     let quoted = format!("{name:?}");
     match name.to_str() {
-        Some(text) if is_plain(text, &quoted) => text.to_string(),
+        Some(text) if text.trim() == text && quoted == format!("\"{text}\"") => text.to_string(),
         _ => quoted,
     }
-}
-
-fn is_plain(text: &str, quoted: &str) -> bool {
-    !text.is_empty() && text.trim() == text && quoted == format!("\"{text}\"")
 }
 
 /// Why a call of the system failed, without its number.

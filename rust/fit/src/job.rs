@@ -89,13 +89,7 @@ impl Job {
     pub fn accepted(&self) -> Result<Accepted, Stop> {
         let stop = |number| move |reason| Stop { number, reason };
         let places = self.places().map_err(stop(7))?;
-        let [kind, depth, pattern_width, set_width] = self.fields(0);
-        let geometry = Geometry {
-            kind,
-            depth,
-            pattern_width,
-            set_width,
-        };
+        let geometry = geometry(self.fields(0));
         let words = indicator_words(geometry).map_err(stop(1))?;
         if self.has_limits {
             fits(geometry, words).map_err(stop(9))?;
@@ -184,6 +178,16 @@ fn fits(geometry: Geometry, words: usize) -> Result<(), String> {
         )));
     }
     Ok(())
+}
+
+/// The four numbers in their order (rule 13.2).
+pub fn geometry([kind, depth, pattern_width, set_width]: [u32; 4]) -> Geometry {
+    Geometry {
+        kind,
+        depth,
+        pattern_width,
+        set_width,
+    }
 }
 
 /// The length of the indicators, or which rule of a geometry is broken. The library decides.

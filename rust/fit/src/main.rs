@@ -1,7 +1,7 @@
 //! camfit, the fitter's bench: what a right board answers to a job, the tables that it leaves, and a
-//! board's tables compared with them or judged by themselves. Every answer and every word of the
-//! model is the proved library's; what is written here reads, names and prints. The rules that are
-//! cited are those of docs/MEMORY.md.
+//! board's tables compared with them or judged by themselves. Every answer of a call and every word of
+//! the model is the proved library's; what is written here reads, names and prints. The rules that
+//! are cited are those of docs/MEMORY.md.
 
 mod compare;
 mod files;
@@ -35,7 +35,7 @@ struct Ended {
     what: Option<String>,
 }
 
-/// The command line is wrong, or something cannot be read or written.
+/// The command line is wrong, a job is stopped as a whole, or something cannot be read or written.
 impl From<String> for Ended {
     fn from(what: String) -> Ended {
         Ended {
@@ -45,7 +45,7 @@ impl From<String> for Ended {
     }
 }
 
-/// A refusal by the library that nothing before it has told.
+/// A refusal by the library, in its own words.
 impl From<Refusal> for Ended {
     fn from(refusal: Refusal) -> Ended {
         refusal.to_string().into()

@@ -27,13 +27,15 @@ camfit: a board's tables beside the model's, which the proved library makes
   --          what follows is no option
   --help      print this
 
-The files are those of $readmemh: hexadecimal words, comments, @ with the number of the next word. Each
-word must be given once. tables makes DIR if it is not there, and replaces no file but its own of before.
+The files are those of $readmemh: words, comments, and @ with the number of the next word, words and
+numbers in hexadecimal. Each word must be given once. tables makes DIR if it is not there, and replaces
+only files that camfit wrote.
 A wrong bit is called stale (1 on the board, 0 in the model), missing (0 on the board, 1 in the model) or
 padding (1 on the board, and no set has it).
 
-Exit status: 1 where words differ, no history leaves the tables, or --on refuses them; 2 where something
-cannot be read or written; else 0.";
+Exit status: 1 where words differ, no history leaves the tables, or --on refuses them; 2 where the command
+line is wrong, a job is stopped as a whole (tables, compare), or something cannot be read or written; else
+0.";
 
 pub enum Task {
     Run {
@@ -100,10 +102,10 @@ impl Given {
         let mut given = Given::default();
         while let Some(word) = words.next() {
             match word.to_str() {
-                Some("--on") => once("--on", &mut given.on, words.next())?,
-                Some("--most") => once("--most", &mut given.most, words.next())?,
+                Some("--on") => take_value("--on", &mut given.on, words.next())?,
+                Some("--most") => take_value("--most", &mut given.most, words.next())?,
                 Some("--any-size") => given.any_size = true,
-                Some("--help" | "-h") => given.help = true,
+                Some("--help") => given.help = true,
                 Some("--") => given.names.extend(words.by_ref()),
                 Some(option) if option.starts_with('-') && option != "-" => {
                     return Err(format!("{option:?} is no option"));
@@ -201,7 +203,11 @@ impl Given {
 }
 
 /// Takes the value of an option that has none yet.
-fn once(option: &str, old: &mut Option<OsString>, value: Option<OsString>) -> Result<(), String> {
+fn take_value(
+    option: &str,
+    old: &mut Option<OsString>,
+    value: Option<OsString>,
+) -> Result<(), String> {
     let value = value.ok_or(format!("{option} needs a value"))?;
     match old.replace(value) {
         Some(_) => Err(format!("{option} is given a second time")),

@@ -1,4 +1,5 @@
-//! What is printed for a job: section 14 of docs/MEMORY.md. Every answer is the library's.
+//! What is printed for a job: section 14 of docs/MEMORY.md. Every answer is the library's, but for
+//! number 8, by which no call is made.
 
 use crate::job::Command;
 use cam::{AllMatch, FirstMatch, Memory, Refusal};

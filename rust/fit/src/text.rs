@@ -1,7 +1,7 @@
 //! The language of `tools/camjob`, and a line more: `next ADDRESS PATTERN`. A text is turned into
 //! the bytes of its job file, so that it means what its job file means.
 
-use crate::job::{indicator_words, place_of_commands, Job, COMMAND, HEADER};
+use crate::job::{self, place_of_commands, Job, COMMAND, HEADER};
 use crate::words::{has_byte_order_mark, is_blank, shown, BYTE_ORDER_MARK};
 use cam::Geometry;
 use std::collections::BTreeSet;
@@ -43,14 +43,9 @@ pub fn job(name: &str, data: &[u8]) -> Result<Job, String> {
 /// A geometry by itself, if these words are one as a text has it in its first line.
 pub fn geometry(line: &[u8]) -> Option<Result<Geometry, String>> {
     let fields = geometry_of(&words(line))?;
-    Some(fields.and_then(|[kind, depth, pattern_width, set_width]| {
-        let geometry = Geometry {
-            kind,
-            depth,
-            pattern_width,
-            set_width,
-        };
-        indicator_words(geometry).map(|_| geometry)
+    Some(fields.and_then(|fields| {
+        let geometry = job::geometry(fields);
+        job::indicator_words(geometry).map(|_| geometry)
     }))
 }
 

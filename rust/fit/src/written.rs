@@ -10,7 +10,8 @@ use std::process;
 /// What a file begins with that was written here. Any other may be a board's, and is not replaced.
 pub const MARK: &str = "// camfit ";
 
-/// Puts files into a folder, which is made if it is not there. The program is to end behind this.
+/// Puts files into a folder, which is made if it is not there. Signals are passed over from here on,
+/// so that the program must end soon.
 pub fn write_all(folder: &Path, texts: &[(&str, String)]) -> Result<(), String> {
     let names = texts.iter().map(|(name, _)| folder.join(name));
     let targets = targets(names)?;
@@ -21,8 +22,8 @@ pub fn write_all(folder: &Path, texts: &[(&str, String)]) -> Result<(), String> 
     };
     pass_over_signals();
     let files = targets.into_iter().zip(texts);
-    let files = files.map(|(target, (_, text))| Unnamed::new(target, text));
-    let named = files.collect::<Result<Vec<Unnamed>, String>>();
+    let files = files.map(|(target, (_, text))| Staged::new(target, text));
+    let named = files.collect::<Result<Vec<Staged>, String>>();
     let named = named.and_then(name_all);
     if named.is_err() && is_new {
         // What is told is the error before.
@@ -44,25 +45,25 @@ fn targets(names: impl Iterator<Item = PathBuf>) -> Result<Vec<Target>, String> 
     Ok(targets)
 }
 
-/// A signal that would end the program in the middle is passed over from here on, and a limit on
-/// the size of files becomes an error of the call.
+/// HUP, INT and TERM end the program no more, and a limit on the size of files becomes an error of
+/// the call.
 fn pass_over_signals() {
     extern "C" {
         fn signal(number: i32, action: usize) -> usize;
     }
     const PASS_OVER: usize = 1;
-    // HUP, INT, TERM and XFSZ of x86-64 Linux.
+    // The numbers of HUP, INT, TERM and XFSZ on x86-64 Linux.
     for number in [1, 2, 15, 25] {
         // It stores two numbers: no function of this program is called by a signal.
         unsafe { signal(number, PASS_OVER) };
     }
 }
 
-/// Gives all files their names. Where one cannot have it, those before it give way again.
-fn name_all(mut files: Vec<Unnamed>) -> Result<(), String> {
+/// Gives all files their names. Where one cannot have its own, those before it give way again.
+fn name_all(mut files: Vec<Staged>) -> Result<(), String> {
     for at in 0..files.len() {
         if let Err(what) = files[at].name() {
-            files[..at].iter().for_each(Unnamed::give_way);
+            files[..at].iter().for_each(Staged::give_way);
             return Err(what);
         }
     }
@@ -119,23 +120,23 @@ fn has_mark(place: &Path) -> io::Result<bool> {
     Ok(first == MARK.as_bytes())
 }
 
-/// A file that is written whole and has another name.
-struct Unnamed {
+/// A file that is written whole, under another name at first.
+struct Staged {
     target: Target,
     other: PathBuf,
     /// A second name of the old file, under which it outlives the first.
     old: Option<PathBuf>,
 }
 
-impl Unnamed {
-    fn new(target: Target, text: &str) -> Result<Unnamed, String> {
+impl Staged {
+    fn new(target: Target, text: &str) -> Result<Staged, String> {
         let (mut file, other) = create_beside(&target.place).map_err(error(&target.name))?;
-        let unnamed = Unnamed {
+        let staged = Staged {
             target,
             other,
             old: None,
         };
-        let target = &unnamed.target;
+        let target = &staged.target;
         let mut write = || {
             file.write_all(text.as_bytes())?;
             if let Some(permissions) = &target.permissions {
@@ -144,7 +145,7 @@ impl Unnamed {
             file.sync_all()
         };
         write().map_err(error(&target.name))?;
-        Ok(unnamed)
+        Ok(staged)
     }
 
     fn name(&mut self) -> Result<(), String> {
@@ -158,7 +159,7 @@ impl Unnamed {
         fs::rename(&self.other, place).map_err(error(&self.target.name))
     }
 
-    /// Makes room for the old file, or for none, where it had its name.
+    /// Gives the name back to the old file, or removes the new one where there was none.
     fn give_way(&self) {
         let place = &self.target.place;
         // What is told is why the other file has no name.
@@ -182,7 +183,7 @@ fn create_beside(place: &Path) -> io::Result<(File, PathBuf)> {
     }
 }
 
-impl Drop for Unnamed {
+impl Drop for Staged {
     fn drop(&mut self) {
         for name in self.old.iter().chain([&self.other]) {
             // Once it is renamed there is none.

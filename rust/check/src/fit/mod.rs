@@ -1,6 +1,6 @@
-//! The program `camfit`, run as a child on small boards: every byte that it prints on standard
-//! output, its exit status and every file that it leaves are held to the second writing, which
-//! shares no code with it.
+//! The program `camfit`, run as a child on boards, small and large: every byte that it prints on
+//! standard output, its exit status and every file that it leaves are held to the second writing,
+//! which shares no code with it.
 
 mod asked;
 mod begun;

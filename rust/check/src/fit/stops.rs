@@ -132,7 +132,7 @@ fn place(offset: u32) -> u32 {
 pub fn stopped(number: u32) -> Right {
     Right {
         printed: format!("job no {number}\n"),
-        said: vec!["\n".to_string()],
+        said: vec![format!("stopped with {number}: ")],
         ..Right::default()
     }
 }

@@ -36,9 +36,9 @@ const LAST_LINES: &str = "
   --write-tables FOLDER
                      write the right ones: NAME.store and NAME.indicators beside each NAME.job that
                      is not stopped whole
-  --camfit PATH      run the program camfit on boards, small and large, hold its standard output, its
-                     status and its files to the second writing, and do nothing else; each run counts
-                     one
+  --camfit PATH      run the program camfit on boards, small and large, hold its standard output,
+                     its status and its files to the second writing, and do nothing else; each run
+                     counts one
   --trace            print the name or number of each trial before it runs, to find one that crashes
   --quick            a tenth of the random trials, and no job, where no number is given
   --brief            do not print how often each thing was met

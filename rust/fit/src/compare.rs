@@ -1,6 +1,6 @@
 //! Tables beside tables: which words are wrong, with a line for each.
 
-use crate::names::{Bits, Names};
+use crate::names::Names;
 use crate::tables::Tables;
 use cam::{Memory, Refusal, EMPTY};
 
@@ -10,27 +10,21 @@ pub struct Wrong {
     faults: Vec<Fault>,
 }
 
-/// A word that is wrong, by its number.
+/// A word that is wrong: its number, and what it is.
 enum Fault {
     /// Another entry than the model's.
-    Entry(usize, Entries),
+    Entry { at: usize, model: u32, board: u32 },
     /// No entry at all.
-    NoEntry(usize, u32),
-    Bits(usize, Bits),
-}
-
-/// A word of the store as the model has it and as the board has it.
-#[derive(Clone, Copy)]
-struct Entries {
-    model: u32,
-    board: u32,
+    NoEntry { at: usize, board: u32 },
+    /// Other bits than the model's.
+    Bits { at: usize, model: u64, board: u64 },
 }
 
 /// The words in which the board's tables are not the model's.
 pub fn differences(model: &Tables, board: &Tables) -> Wrong {
     let store = model.store.iter().zip(&board.store).enumerate();
     let store = store.filter(|(_, (model, board))| model != board);
-    let store = store.map(|(at, (&model, &board))| Fault::Entry(at, Entries { model, board }));
+    let store = store.map(|(at, (&model, &board))| Fault::Entry { at, model, board });
     Wrong {
         names: Names::new(board.geometry),
         faults: store
@@ -48,7 +42,10 @@ pub fn faults(board: &Tables) -> Result<Wrong, Refusal> {
     for (address, &word) in (0..).zip(&board.store) {
         // Only a word that is no pattern is refused.
         if word != EMPTY && model.write(address, word).is_err() {
-            faults.push(Fault::NoEntry(address as usize, word));
+            faults.push(Fault::NoEntry {
+                at: address as usize,
+                board: word,
+            });
         }
     }
     faults.extend(wrong_bits(model.indicators(), &board.indicators));
@@ -62,7 +59,7 @@ pub fn faults(board: &Tables) -> Result<Wrong, Refusal> {
 fn wrong_bits<'a>(model: &'a [u64], board: &'a [u64]) -> impl Iterator<Item = Fault> + 'a {
     let words = model.iter().zip(board).enumerate();
     let words = words.filter(|(_, (model, board))| model != board);
-    words.map(|(at, (&model, &board))| Fault::Bits(at, Bits { model, board }))
+    words.map(|(at, (&model, &board))| Fault::Bits { at, model, board })
 }
 
 impl Wrong {
@@ -79,16 +76,15 @@ impl Wrong {
 
     fn line(&self, fault: &Fault) -> String {
         match *fault {
-            Fault::Entry(at, Entries { model, board }) => {
+            Fault::Entry { at, model, board } => {
                 format!("store word {at}: model {model:08x} board {board:08x}, address {at}")
             }
-            Fault::NoEntry(at, board) => format!(
+            Fault::NoEntry { at, board } => format!(
                 "store word {at}: board {board:08x}, address {at}, neither empty nor a pattern"
             ),
-            Fault::Bits(at, bits) => {
-                let Bits { model, board } = bits;
+            Fault::Bits { at, model, board } => {
                 let row = self.names.row(at / self.names.row_words());
-                let wrong = self.names.wrong_bits(at, bits);
+                let wrong = self.names.wrong_bits(at, model, board);
                 format!("indicators word {at}: model {model:016x} board {board:016x}, {row}{wrong}")
             }
         }

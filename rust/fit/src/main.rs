@@ -1,7 +1,7 @@
-//! camfit, the fitter's bench: what a right board answers to a job, the tables that it leaves, and a
-//! board's tables compared with them or judged by themselves. Every answer of a call and every word of
-//! the model is the proved library's; what is written here reads, names and prints. The rules that
-//! are cited are those of docs/MEMORY.md.
+//! camfit, the fitter's bench: what a right board answers to a job, the tables that it leaves, and
+//! a board's tables compared with them or judged by themselves. Every answer of a call and every
+//! word of the model is the proved library's; what is written here reads, names and prints. The
+//! rules that are cited are those of docs/MEMORY.md.
 
 mod compare;
 mod files;

@@ -37,13 +37,13 @@ impl Names {
     }
 
     /// The wrong bits of a word: what is wrong with each, and whose it is.
-    pub fn wrong_bits(&self, word: usize, bits: Bits) -> String {
+    pub fn wrong_bits(&self, word: usize, model: u64, board: u64) -> String {
         let first = word % self.row_words * 64;
-        let wrong = bits.model ^ bits.board;
+        let wrong = model ^ board;
         let mut text = String::new();
         for bit in (0..64).filter(|bit| wrong >> bit & 1 == 1) {
             // Rule 3.5. A bit that no set has is padding (rule 3.6).
-            match (self.sets.get(first + bit), bits.model >> bit & 1) {
+            match (self.sets.get(first + bit), model >> bit & 1) {
                 (None, _) => text += &format!(", padding bit {bit}"),
                 (Some(set), 0) => text.extend([", stale ", set]),
                 (Some(set), _) => text.extend([", missing ", set]),
@@ -51,13 +51,6 @@ impl Names {
         }
         text
     }
-}
-
-/// A word of the indicators as the model has it and as the board has it.
-#[derive(Clone, Copy)]
-pub struct Bits {
-    pub model: u64,
-    pub board: u64,
 }
 
 /// The bit of a set, and the set's addresses (rules 2.5 and 2.7).

@@ -19,23 +19,24 @@ camfit: a board's tables beside the model's, which the proved library makes
       tell whether any history of calls leaves the tables in DIR; if none does, a line for the first
       word that is wrong. GEOMETRY is: kind N depth N width N set N
 
-  JOB         a text of tools/camjob (see its --help), which may also have lines `next ADDRESS PATTERN`
-              (next-match), or a job file. A text may have any geometry and any number of commands
+  JOB         a text of tools/camjob (see its --help), which may also have lines
+              `next ADDRESS PATTERN` (next-match), or a job file. A text may have any geometry and
+              any number of commands
   --on DIR    begin with the tables in DIR, if some history leaves them, in place of a clear
   --any-size  lift the limits of size that camrun and camfit have for job files
   --most N    print at most N lines before the last one (compare: all of them; judge: 1)
   --          what follows is no option
   --help      print this
 
-The files are those of $readmemh: words, comments, and @ with the number of the next word, words and
-numbers in hexadecimal. Each word must be given once. tables makes DIR if it is not there, and replaces
-only files that camfit wrote.
-A wrong bit is called stale (1 on the board, 0 in the model), missing (0 on the board, 1 in the model) or
-padding (1 on the board, and no set has it).
+The files are those of $readmemh: words, comments, and @ with the number of the next word, words
+and numbers in hexadecimal. Each word must be given once. tables makes DIR if it is not there, and
+replaces only files that camfit wrote.
+A wrong bit is called stale (1 on the board, 0 in the model), missing (0 on the board, 1 in the
+model) or padding (1 on the board, and no set has it).
 
-Exit status: 1 where words differ, no history leaves the tables, or --on refuses them; 2 where the command
-line is wrong, a job is stopped as a whole (tables, compare), or something cannot be read or written; else
-0.";
+Exit status: 1 where words differ, no history leaves the tables, or --on refuses them; 2 where the
+command line is wrong, a job is stopped as a whole (tables, compare), or something cannot be read or
+written; else 0.";
 
 pub enum Task {
     Run {

@@ -10,8 +10,8 @@ use std::process;
 /// What a file begins with that was written here. Any other may be a board's, and is not replaced.
 pub const MARK: &str = "// camfit ";
 
-/// Puts files into a folder, which is made if it is not there. Signals are passed over from here on,
-/// so that the program must end soon.
+/// Puts files into a folder, which is made if it is not there. Signals are passed over from here
+/// on, so that the program must end soon.
 pub fn write_all(folder: &Path, texts: &[(&str, String)]) -> Result<(), String> {
     let names = texts.iter().map(|(name, _)| folder.join(name));
     let targets = targets(names)?;

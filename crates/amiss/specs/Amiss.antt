@@ -1,5 +1,5 @@
--- What the first look of a resume finds amiss: a word of the store that is neither empty nor a pattern, or an entry that lacks a bit
--- (rule 8.12 of docs/MEMORY.md).
+-- What the first look of a resume finds amiss: a word of the store that is neither empty nor a
+-- pattern, or an entry that lacks a bit (rule 8.12 of docs/MEMORY.md).
 use Rattle.std.specs.Prelude.{ℕ, ◌/◌, ◌%◌, Bool, false, not, ◌||◌, List}
 use Rattle.words.specs.Rules.{any}
 use Rattle.geometry.specs.declared.Geometry.{Geometry}
@@ -18,6 +18,10 @@ unfoldable pub lacks : Geometry → (ind : List ℕ) → (set : ℕ) → Entry �
 lacks g ind s empty = false
 lacks g ind s (pattern p) = any (stages g) (is_missing g ind s p)
 
--- At an address: its word is neither empty nor a pattern, or a bit of its entry is missing.
+-- Whether an address is amiss: its word is neither empty nor a pattern, or a bit of its entry is
+-- missing; and whether any is.
 unfoldable pub is_amiss : Geometry → Tables → (a : ℕ) → Bool
 is_amiss g t a = bad_entry g t a || lacks g t.indicators (set_of g a) (stored_entry g t a)
+
+abbrev pub any_is_amiss : Geometry → Tables → Bool
+any_is_amiss g t = any g.depth (is_amiss g t)

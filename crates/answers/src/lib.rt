@@ -1,11 +1,12 @@
-// The items of an answer, which end their line, printed on a page; by pieces and not by `Display`, as `figures` says.
-#![tactic(auto, using(crate::proofs::Words::words_ended, figures::proofs::Printing::room_after), unfolding(figures::specs::Figures::ascii, crate::specs::Items::ended, crate::specs::Items::entry_text, crate::specs::Items::answer_items))]
+//! The items of an answer, printed on a page. They end the line of the command that was answered
+//! (docs/MEMORY.md, section 14).
+#![tactic(auto, using(crate::proofs::Words::words_ended, figures::proofs::Printing::room_after))]
 
-ghost use Rattle.std.specs.Prelude.{◌≡◌, ◌++◌};
+ghost use Rattle.std.specs.Prelude.{◌≡◌};
 ghost use Rattle.calls.specs.Answers.{entry_for, search_for, answer_for};
-ghost use Rattle.figures.specs.Pieces.{piece_bytes, all_bytes};
-ghost use Rattle.figures.specs.Sheet.{Room, Prints};
-ghost use Rattle.answers.specs.Items.{ended, entry_text, counts, answer_items};
+ghost use Rattle.figures.specs.Pieces.{piece_bytes};
+ghost use Rattle.figures.specs.Sheet.{HasRoom, Prints};
+ghost use Rattle.answers.specs.Items.{line_end, entry_text, counted_bytes, answer_items};
 
 use calls::{Answer, Entry, Search};
 use checks::Refusal;
@@ -24,8 +25,8 @@ fn entry_piece(entry: Entry) -> Piece<'static>
 
 // What a first-match found, and its counts.
 fn put_counted(page: &mut Page, found: &[Piece], words_read: u16, entries_compared: u16)
-    requires { Room page.old (all_bytes found.now ++ ended (counts words_read entries_compared)) }
-    ensures { Prints page.old page.new (all_bytes found.now ++ ended (counts words_read entries_compared)) }
+    requires { HasRoom page.old (counted_bytes found.now words_read entries_compared) }
+    ensures { Prints page.old page.new (counted_bytes found.now words_read entries_compared) }
 {
     page.print(found);
     page.print(&[
@@ -37,10 +38,10 @@ fn put_counted(page: &mut Page, found: &[Piece], words_read: u16, entries_compar
     ])
 }
 
-// The answer of a first-match.
+// The answer of a first-match: the address or none, and the counts.
 fn put_search(page: &mut Page, found: Search)
-    requires { Room page.old (ended (answer_items (search_for found))) }
-    ensures { Prints page.old page.new (ended (answer_items (search_for found))) }
+    requires { HasRoom page.old (line_end (answer_items (search_for found))) }
+    ensures { Prints page.old page.new (line_end (answer_items (search_for found))) }
 {
     match found.address {
         Some(address) => {
@@ -56,10 +57,11 @@ fn put_search(page: &mut Page, found: Search)
     }
 }
 
-// An answer, after the number of its command.
+/// Prints an answer behind the number of its command, with the newline that ends the line. The
+/// match word is that of an accepted all-match, and any other answer leaves it out.
 pub fn put_items(page: &mut Page, answer: Result<Answer, Refusal>, matches: &[u64])
-    requires { Room page.old (ended (answer_items (answer_for answer matches.now))) }
-    ensures { Prints page.old page.new (ended (answer_items (answer_for answer matches.now))) }
+    requires { HasRoom page.old (line_end (answer_items (answer_for answer matches.now))) }
+    ensures { Prints page.old page.new (line_end (answer_items (answer_for answer matches.now))) }
 {
     match answer {
         Err(why) => page.print(&[Text(" no "), Decimal(u32::from(why)), Text("\n")]),

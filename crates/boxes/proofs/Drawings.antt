@@ -1,14 +1,12 @@
 -- Patterns as they are drawn, computed: rows of one table.
-use Prim.Native.Nat.{ℕ}
-use mathlib.Core.Path.{◌≡◌, refl}
-use mathlib.Core.List.{List, [], ◌∷◌, map}
+use Rattle.std.proofs.Common.{◌≡◌, ℕ, List, [], ◌∷◌, map, refl}
 use Rattle.words.specs.Rules.{tabulate}
 use Rattle.geometry.specs.declared.Geometry.{Geometry}
 use Rattle.geometry.specs.Stages.{stages}
 use Rattle.geometry.proofs.Boundaries.{four}
 use Rattle.boxes.specs.declared.StageBox.{StageBox}
 use Rattle.boxes.specs.declared.StageBox.TheVariants.{LowNine, MiddleNine, TopNine, NarrowLast, Whole}
-use Rattle.boxes.specs.Drawn.{box_of, boxed, drawn}
+use Rattle.boxes.specs.Drawn.{box_of, box_value, drawn_stage}
 
 -- A pattern with the boxes of its stages, from the low end on, and what goes into each.
 pub record Drawing : Type 0 where
@@ -20,8 +18,9 @@ pub record Drawing : Type 0 where
 abbrev pub drawing : (kind width pattern : ℕ) → List StageBox → List ℕ → Drawing
 drawing k w p bs vs = record { geometry = four k 2 w 1; pattern = p; boxes = bs; values = vs }
 
--- The patterns of docs/SLICES.md, which are the low bits of one number; the widths next to a nine, with numbers that have bits above the
--- pattern's; and the kinds that do not cut a pattern, at the widths of every box.
+-- The patterns of docs/SLICES.md, which are the low bits of one number; the widths next to a nine,
+-- with numbers that have bits above the pattern's; and the kinds that do not cut a pattern, at the
+-- widths of every box.
 abbrev pub drawings : List Drawing
 drawings =
     drawing 1 5 21 (NarrowLast ∷ []) (21 ∷ [])
@@ -41,8 +40,8 @@ drawings =
 abbrev pub drawn_stages : Drawing → List ℕ
 drawn_stages d = tabulate (stages d.geometry) (λ k. k)
 
-pub drawings-hold :
+pub drawings_hold :
     (map (λ (d : Drawing). map (box_of d.geometry) (drawn_stages d)) drawings ≡ map (λ (d : Drawing). d.boxes) drawings)
-    × (map (λ (d : Drawing). map (λ k. drawn d.geometry k d.pattern) (drawn_stages d)) drawings ≡ map (λ (d : Drawing). d.values) drawings)
-unfolding stages box_of boxed tabulate
-drawings-hold = (refl, refl)
+    × (map (λ (d : Drawing). map (λ k. drawn_stage d.geometry k d.pattern) (drawn_stages d)) drawings ≡ map (λ (d : Drawing). d.values) drawings)
+unfolding stages box_of box_value tabulate
+drawings_hold = (refl, refl)

@@ -1,13 +1,12 @@
 -- The examples hold: antt computes what each call and answer stands for.
-use mathlib.Core.Path.{◌≡◌, refl}
-use mathlib.Core.List.{map}
+use Rattle.std.proofs.Common.{◌≡◌, map, refl}
 use Rattle.calls.specs.Answers.{call_for, answer_for}
 use Rattle.calls.specs.Examples.{CallExample, AnswerExample, two_words, call_examples, answer_examples}
 
-pub calls-hold : map (λ (e : CallExample). call_for e.given two_words) call_examples ≡ map (λ (e : CallExample). e.meant) call_examples
+pub calls_hold : map (λ (e : CallExample). call_for e.given two_words) call_examples ≡ map (λ (e : CallExample). e.meant) call_examples
 unfolding call_examples
-calls-hold = refl
+calls_hold = refl
 
-pub answers-hold : map (λ (e : AnswerExample). answer_for e.given two_words) answer_examples ≡ map (λ (e : AnswerExample). e.meant) answer_examples
+pub answers_hold : map (λ (e : AnswerExample). answer_for e.given two_words) answer_examples ≡ map (λ (e : AnswerExample). e.meant) answer_examples
 unfolding answer_examples
-answers-hold = refl
+answers_hold = refl

@@ -1,5 +1,5 @@
-// The functions of `cam_abi` under their names for callers in C and Rust, each with its contract: crates/cam_abi/cam.h declares them. A
-// slice is passed as its pointer and its length in elements. They are written once more, since a crate is a library or a static library.
+//! The functions of `cam_abi` under their names for callers in C and Rust, each with its contract:
+//! crates/cam_abi/cam.h declares them. A slice is passed as its pointer and its length in elements.
 #![tactic(auto)]
 
 ghost use Rattle.std.specs.Prelude.{◌≡◌, []};
@@ -7,8 +7,9 @@ ghost use Rattle.geometry.specs.Sizes.{match_words};
 ghost use Rattle.geometry.specs.Stages.{indicator_words};
 ghost use Rattle.reference.specs.Calls.{clear, write, erase, read, first_match, next_match, all_match};
 ghost use Rattle.calls.specs.Answers.{tables};
-ghost use Rattle.codes.specs.Codes.{size_code, four, Coded, ResumeCoded};
+ghost use Rattle.codes.specs.Codes.{size_code, four, Coded, CodedReading, ResumeCoded};
 
+/// As `cam_abi::cam_indicator_words`.
 #[unsafe(no_mangle)]
 pub extern "C" fn cam_indicator_words(
     kind: u32,
@@ -21,6 +22,7 @@ pub extern "C" fn cam_indicator_words(
     cam_abi::cam_indicator_words(kind, depth, pattern_width, set_width)
 }
 
+/// As `cam_abi::cam_match_words`.
 #[unsafe(no_mangle)]
 pub extern "C" fn cam_match_words(kind: u32, depth: u32, pattern_width: u32, set_width: u32) -> u64
     ensures { result ≡ size_code (four kind depth pattern_width set_width) match_words }
@@ -28,6 +30,7 @@ pub extern "C" fn cam_match_words(kind: u32, depth: u32, pattern_width: u32, set
     cam_abi::cam_match_words(kind, depth, pattern_width, set_width)
 }
 
+/// As `cam_abi::cam_resume`.
 #[unsafe(no_mangle)]
 pub extern "C" fn cam_resume(
     kind: u32,
@@ -37,11 +40,13 @@ pub extern "C" fn cam_resume(
     store: &[u32],
     indicators: &[u64],
 ) -> u64
-    ensures { ResumeCoded (four kind depth pattern_width set_width) result (tables store.now indicators.now) (tables store.now indicators.now) }
+    ensures { ResumeCoded (four kind depth pattern_width set_width) result
+        (tables store.now indicators.now) (tables store.now indicators.now) }
 {
     cam_abi::cam_resume(kind, depth, pattern_width, set_width, store, indicators)
 }
 
+/// As `cam_abi::cam_clear`.
 #[unsafe(no_mangle)]
 pub extern "C" fn cam_clear(
     kind: u32,
@@ -51,11 +56,13 @@ pub extern "C" fn cam_clear(
     store: &mut [u32],
     indicators: &mut [u64],
 ) -> u64
-    ensures { Coded (four kind depth pattern_width set_width) clear result (tables store.old indicators.old) (tables store.new indicators.new) [] }
+    ensures { Coded (four kind depth pattern_width set_width) clear result
+        (tables store.old indicators.old) (tables store.new indicators.new) [] }
 {
     cam_abi::cam_clear(kind, depth, pattern_width, set_width, store, indicators)
 }
 
+/// As `cam_abi::cam_write`.
 #[unsafe(no_mangle)]
 pub extern "C" fn cam_write(
     kind: u32,
@@ -67,7 +74,8 @@ pub extern "C" fn cam_write(
     address: u32,
     pattern: u32,
 ) -> u64
-    ensures { Coded (four kind depth pattern_width set_width) (write address pattern) result (tables store.old indicators.old) (tables store.new indicators.new) [] }
+    ensures { Coded (four kind depth pattern_width set_width) (write address pattern) result
+        (tables store.old indicators.old) (tables store.new indicators.new) [] }
 {
     cam_abi::cam_write(
         kind,
@@ -81,6 +89,7 @@ pub extern "C" fn cam_write(
     )
 }
 
+/// As `cam_abi::cam_erase`.
 #[unsafe(no_mangle)]
 pub extern "C" fn cam_erase(
     kind: u32,
@@ -91,7 +100,8 @@ pub extern "C" fn cam_erase(
     indicators: &mut [u64],
     address: u32,
 ) -> u64
-    ensures { Coded (four kind depth pattern_width set_width) (erase address) result (tables store.old indicators.old) (tables store.new indicators.new) [] }
+    ensures { Coded (four kind depth pattern_width set_width) (erase address) result
+        (tables store.old indicators.old) (tables store.new indicators.new) [] }
 {
     cam_abi::cam_erase(
         kind,
@@ -104,6 +114,7 @@ pub extern "C" fn cam_erase(
     )
 }
 
+/// As `cam_abi::cam_read`.
 #[unsafe(no_mangle)]
 pub extern "C" fn cam_read(
     kind: u32,
@@ -114,7 +125,8 @@ pub extern "C" fn cam_read(
     indicators: &[u64],
     address: u32,
 ) -> u64
-    ensures { Coded (four kind depth pattern_width set_width) (read address) result (tables store.now indicators.now) (tables store.now indicators.now) [] }
+    ensures { CodedReading (four kind depth pattern_width set_width) (read address) result
+        (tables store.now indicators.now) [] }
 {
     cam_abi::cam_read(
         kind,
@@ -127,6 +139,7 @@ pub extern "C" fn cam_read(
     )
 }
 
+/// As `cam_abi::cam_first_match`.
 #[unsafe(no_mangle)]
 pub extern "C" fn cam_first_match(
     kind: u32,
@@ -137,7 +150,8 @@ pub extern "C" fn cam_first_match(
     indicators: &[u64],
     pattern: u32,
 ) -> u64
-    ensures { Coded (four kind depth pattern_width set_width) (first_match pattern) result (tables store.now indicators.now) (tables store.now indicators.now) [] }
+    ensures { CodedReading (four kind depth pattern_width set_width) (first_match pattern) result
+        (tables store.now indicators.now) [] }
 {
     cam_abi::cam_first_match(
         kind,
@@ -150,6 +164,7 @@ pub extern "C" fn cam_first_match(
     )
 }
 
+/// As `cam_abi::cam_next_match`.
 #[unsafe(no_mangle)]
 pub extern "C" fn cam_next_match(
     kind: u32,
@@ -161,7 +176,8 @@ pub extern "C" fn cam_next_match(
     address: u32,
     pattern: u32,
 ) -> u64
-    ensures { Coded (four kind depth pattern_width set_width) (next_match address pattern) result (tables store.now indicators.now) (tables store.now indicators.now) [] }
+    ensures { CodedReading (four kind depth pattern_width set_width) (next_match address pattern)
+        result (tables store.now indicators.now) [] }
 {
     cam_abi::cam_next_match(
         kind,
@@ -175,6 +191,7 @@ pub extern "C" fn cam_next_match(
     )
 }
 
+/// As `cam_abi::cam_all_match`.
 #[unsafe(no_mangle)]
 pub extern "C" fn cam_all_match(
     kind: u32,
@@ -186,7 +203,8 @@ pub extern "C" fn cam_all_match(
     matches: &mut [u64],
     pattern: u32,
 ) -> u64
-    ensures { Coded (four kind depth pattern_width set_width) (all_match pattern matches.old) result (tables store.now indicators.now) (tables store.now indicators.now) matches.new }
+    ensures { CodedReading (four kind depth pattern_width set_width) (all_match pattern matches.old)
+        result (tables store.now indicators.now) matches.new }
 {
     cam_abi::cam_all_match(
         kind,

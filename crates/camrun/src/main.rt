@@ -1,5 +1,5 @@
-// Runs the job on standard input and prints its report. Everything that matters is in `job`: this reads, calls it once, and
-// writes. Its status is always 0: a line on standard error tells what failed.
+//! Runs the job on standard input and prints its report: it reads, calls `job::run` once, and
+//! writes. Its status is always 0; a line on standard error tells what failed.
 #![tactic(auto)]
 
 use std::fs::{File, Files, OpenFile};
@@ -14,7 +14,7 @@ enum Failure {
 }
 
 impl Failure {
-    // No `Display`: it goes out by `write_whole`, as the report does, which takes bytes and tries again where a write was interrupted.
+    // What standard error is told.
     fn line(self) -> &'static str {
         match self {
             Failure::Unread => "camrun: the job could not be read\n",
@@ -23,10 +23,12 @@ impl Failure {
     }
 }
 
+// The name of standard output among files.
 const OUTPUT: &str = "/dev/stdout";
 
-// A file system may tell only now that it had no room. `std` neither closes nor syncs standard output itself: where that is a file,
-// it is opened once more by its name. One that cannot be asked in this way has nothing to tell.
+// Brings the report to its disk, where standard output is a file: a file system may tell only now
+// that it had no room. Standard output is opened once more by its name; where that cannot be done
+// there is nothing to tell.
 fn settle(rt: &impl Files) -> io::Result<()> {
     if fs::metadata(rt, OUTPUT).is_ok_and(|known| known.is_file())
         && let Ok(file) = File::options().write(true).open(rt, OUTPUT)
@@ -38,8 +40,7 @@ fn settle(rt: &impl Files) -> io::Result<()> {
 
 // Reads the job, and writes its report to the end.
 fn run(rt: &impl Files, mut input: Stdin, mut output: Stdout) -> Result<(), Failure> {
-    // Arrays of fixed length and no heap, as in the whole repository: no job runs out of memory. One byte more than a job may have, so that
-    // a longer one is seen to be longer.
+    // One byte more than a job may have, so that a longer one is seen to be longer.
     let mut file = [0u8; 16385];
     let length = streams::read_whole(&mut input, &mut file).map_err(|_| Failure::Unread)?;
     let mut store = [0u32; 1024];

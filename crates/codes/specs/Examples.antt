@@ -1,12 +1,13 @@
--- Answers and what resumes come to with the numbers that stand for them, and geometries with those for their lengths, as rows of
--- three tables, and a geometry of four numbers that differ. proofs/Examples.antt computes them.
-use Rattle.std.specs.Prelude.{ℕ, List, [], ◌∷◌}
-use Rattle.std.proofs.Math.Option.{Option, some}
+-- Answers and what resumes come to with the numbers that stand for them, and geometries with those
+-- for their lengths, as rows of three tables, and a geometry of four numbers that differ.
+-- proofs/Examples.antt computes them.
+use Rattle.std.specs.Prelude.{ℕ, List, [], ◌∷◌, Some, None, Option}
 use Rattle.geometry.specs.declared.Geometry.{Geometry}
 use Rattle.reference.specs.Entry.{empty, pattern}
 use Rattle.reference.specs.Calls.{Answer, refused, cleared, held, at, none, next, matched}
 use Rattle.codes.specs.Codes.{four}
 
+-- An answer, with its number.
 pub record Example : Type 0 where
   pub answer : Answer
   pub number : ℕ
@@ -15,8 +16,8 @@ abbrev pub ◌has◌ : Answer → ℕ → Example
 answer has number = record { answer = answer; number = number }
 
 infix 68 ◌has◌
-unfoldable pub codes : List Example
-codes =
+unfoldable pub code_examples : List Example
+code_examples =
     refused 6 has 6
     ∷ cleared has 256
     ∷ held empty has 4294967551
@@ -24,8 +25,8 @@ codes =
     ∷ held (pattern 5) has 261
     ∷ at 7 2 3 has 12885033223
     ∷ none 2 3 has 12885098751
-    ∷ next (some 7) has 263
-    ∷ next Option.none has 65791
+    ∷ next (Some 7) has 263
+    ∷ next None has 65791
     ∷ matched (8 ∷ 9 ∷ []) 2 has 258
     ∷ []
 
@@ -34,13 +35,14 @@ pub record ResumeExample : Type 0 where
   pub refusal : Option ℕ
   pub number : ℕ
 
-abbrev pub ◌comes-to◌ : Option ℕ → ℕ → ResumeExample
-refusal comes-to number = record { refusal = refusal; number = number }
+abbrev pub ◌comes_to◌ : Option ℕ → ℕ → ResumeExample
+refusal comes_to number = record { refusal = refusal; number = number }
 
-infix 68 ◌comes-to◌
+infix 68 ◌comes_to◌
 unfoldable pub resume_codes : List ResumeExample
-resume_codes = Option.none comes-to 256 ∷ some 1 comes-to 1 ∷ some 2 comes-to 2 ∷ some 10 comes-to 10 ∷ []
+resume_codes = None comes_to 256 ∷ Some 1 comes_to 1 ∷ Some 2 comes_to 2 ∷ Some 10 comes_to 10 ∷ []
 
+-- A geometry of four numbers that differ.
 unfoldable pub one_to_four : Geometry
 one_to_four = record { kind = 1; depth = 2; pattern_width = 3; set_width = 4 }
 

@@ -1,5 +1,6 @@
-// An answer or a length as one number, since C gets one: below 256 it is that of a refusal; else it is 256 and the value that docs/MEMORY.md, section 12
-// gives. Where the exported functions take a geometry, it is made of four numbers here.
+//! An answer or a length as one number, for C: below 256 it is that of a refusal, which changed
+//! nothing; else it is 256 and the value that docs/MEMORY.md, section 12 gives. The geometry that
+//! the exported functions take as four numbers is made here.
 #![tactic(auto)]
 
 ghost use Rattle.std.specs.Prelude.{◌+◌, ◌≡◌, []};
@@ -14,7 +15,7 @@ use checks::Refusal;
 use geometry::Geometry;
 use places::Address;
 
-// The geometry of the four numbers.
+/// The geometry of the four numbers.
 pub fn four(kind: u32, depth: u32, pattern_width: u32, set_width: u32) -> Geometry
     ensures { result ≡ four kind depth pattern_width set_width }
 {
@@ -26,7 +27,7 @@ pub fn four(kind: u32, depth: u32, pattern_width: u32, set_width: u32) -> Geomet
     }
 }
 
-// The number of the address in an answer, or of none.
+// The number of the address in an answer, or 65,535 for none.
 fn address_number(address: Option<Address>) -> u32
     ensures { 256 + result ≡ code_of (next_for address) }
 {
@@ -36,7 +37,15 @@ fn address_number(address: Option<Address>) -> u32
     }
 }
 
-// The number of an answer.
+/// The number of an answer (rules 12.1 to 12.3 and 12.6): that of the refusal, or 256 and the
+/// value.
+///
+/// - A clear: 0.
+/// - A write, an erase or a read: the entry's word in the store, 4,294,967,295 for empty.
+/// - A first-match: the address, or 65,535 for none, with 65,536 times the words read and 2^32
+///   times the entries compared.
+/// - A next-match: the address, or 65,535 for none.
+/// - An all-match: the number of hits.
 pub fn code(answer: Result<Answer, Refusal>) -> u64
     ensures { result ≡ code_of (answer_for answer []) }
 {
@@ -54,7 +63,7 @@ pub fn code(answer: Result<Answer, Refusal>) -> u64
     }
 }
 
-// The number of an answer to a resume.
+/// The number of an answer to a resume (rule 12.5): that of the refusal, or 256.
 pub fn resume_code(answer: Result<(), Refusal>) -> u64
     ensures { result ≡ resume_code (refusal_for answer) }
 {
@@ -64,18 +73,22 @@ pub fn resume_code(answer: Result<(), Refusal>) -> u64
     }
 }
 
-// The number for each length that a geometry asks for.
-#[derive(Clone, Copy)]
+/// The numbers for the lengths that a geometry asks for (rule 12.4): 256 and the words, or 1 where
+/// the geometry is refused.
+#[derive(Clone, Copy, Debug, PartialEq, Eq)]
 pub struct Lengths {
+    /// The number for the indicators.
     pub indicators: u64,
+    /// The number for a match word.
     pub matches: u64,
 }
 
+/// The numbers for both lengths of a geometry.
 pub fn lengths_of(g: Geometry) -> Lengths
-    ensures { (result.indicators ≡ size_code g indicator_words) × (result.matches ≡ size_code g match_words) }
+    ensures indicators { result.indicators ≡ size_code g indicator_words }
+    ensures matches { result.matches ≡ size_code g match_words }
 {
     match checks::geometry(g) {
-        // By `as`: a `usize` has no `From` into 64 bits.
         Ok(layout) => Lengths {
             indicators: 256 + layout.sizes.indicator_words as u64,
             matches: 256 + layout.sizes.match_words as u64,

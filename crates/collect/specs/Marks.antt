@@ -1,13 +1,14 @@
--- How all-match fills the match word: which addresses of which sets it marks.
-use Rattle.std.specs.Prelude.{ℕ, ◌+◌, ◌*◌, ◌/◌, ◌%◌, Bool, ◌&&◌, List, eqb, length, get_or}
+-- Marking in the match word, and the sets that a row word indicates.
+use Rattle.std.specs.Prelude.{ℕ, ◌+◌, ◌*◌, ◌/◌, ◌%◌, Bool, ◌&&◌, List, length, ◌==◌, slice_index}
 use Rattle.std.specs.Int.Bits.{bit_or}
 use Rattle.words.specs.Rules.{tabulate}
 use Rattle.words.specs.Bits.{bit, word}
 
 -- Words in which the bits of the places that have r are set besides.
-unfoldable pub marked : (ℕ → Bool) → List ℕ → List ℕ
-marked r ws = tabulate (length ws) (λ j. bit_or (get_or ws j 0) (word 64 (λ b. r (64 * j + b))))
+unfoldable pub marked_words : (ℕ → Bool) → List ℕ → List ℕ
+marked_words r ws =
+    tabulate (length ws) (λ j. bit_or (slice_index ws j) (word 64 (λ b. r (64 * j + b))))
 
 -- Whether row word j, which is w, indicates the set.
-abbrev pub in_word : (w j set : ℕ) → Bool
-in_word w j s = eqb (s / 64) j && bit w (s % 64)
+abbrev pub indicates : (w j set : ℕ) → Bool
+indicates w j s = s / 64 == j && bit w (s % 64)

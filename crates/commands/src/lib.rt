@@ -1,16 +1,17 @@
-// The run of one command: its call on the tables, and its line.
+//! The run of one command of a job: its call on the tables, and its line in the report.
 #![tactic(auto)]
 
 ghost use Rattle.calls.specs.Answers.{tables};
-ghost use Rattle.figures.specs.Sheet.{Room};
-ghost use Rattle.report.specs.Lines.{answer_line};
-ghost use Rattle.commands.specs.Commands.{commanded, Obeys};
+ghost use Rattle.figures.specs.Sheet.{HasRoom};
+ghost use Rattle.commands.specs.Commands.{command_outcome, command_line, Obeys};
 
 use figures::Page;
 use geometry::Geometry;
 use jobfile::Command;
 
-// Runs a command and prints its line. `job::run_job` shows that there is room for it. The tables are lent side by side, as in `memory`.
+/// Runs the command on the tables and the match word, and prints its line, which begins with
+/// `number`. A command that asks for no call gets 8 and changes nothing (rule 13.7 of
+/// docs/MEMORY.md).
 pub fn run_command(
     command: Command,
     number: u32,
@@ -20,8 +21,10 @@ pub fn run_command(
     matches: &mut [u64],
     page: &mut Page,
 )
-    requires { Room page.old (answer_line number (commanded g (tables store.old indicators.old) matches.old command).answer) }
-    ensures { Obeys (commanded g (tables store.old indicators.old) matches.old command) number (tables store.new indicators.new) matches.new page.old page.new }
+    requires { HasRoom page.old
+        (command_line g number (tables store.old indicators.old) matches.old command) }
+    ensures { Obeys (command_outcome g (tables store.old indicators.old) matches.old command) number
+        (tables store.new indicators.new) matches.new page.old page.new }
 {
     match jobfile::decode(command) {
         Some(call) => {

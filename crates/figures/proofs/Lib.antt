@@ -1,4 +1,3 @@
 pub mod Digits
 pub mod Lengths
 pub mod Printing
-pub mod Places

@@ -1,23 +1,25 @@
-// Texts and figures, printed on a page: a lent buffer.
-//
-// Without `write!`: `fmt` says what was printed where it gives `Ok`, and no clause says when it does. Nothing here can fail: each
-// function asks for room instead, and whoever prints a line has room for all of it.
+//! Texts and figures, printed on a page: a lent buffer with a place in it.
+//!
+//! Printing cannot fail: each function asks for room, and whoever prints a line has room for all of
+//! it.
 #![tactic(auto)]
 
-ghost use Rattle.std.specs.Prelude.{◌≤◌, ◌≡◌, ◌++◌, [], length};
-ghost use Rattle.figures.specs.Figures.{ascii, decimal, hexadecimal};
+ghost use Rattle.std.specs.Prelude.{◌≤◌, ◌≡◌, length, decimal};
+ghost use Rattle.figures.specs.Figures.{hexadecimal};
 
-// A piece of a line.
-#[derive(Clone, Copy)]
+/// A piece of a line.
+#[derive(Clone, Copy, Debug)]
 pub enum Piece<'a> {
+    /// The bytes of the text, as they are.
     Text(&'a str),
+    /// A number in decimal, with no zero in front.
     Decimal(u32),
-    // Words of a match word in hexadecimal, with a space before each.
+    /// Words of a match word in hexadecimal, 16 digits each, with a space before each.
     Words(&'a [u64]),
 }
 
-// A buffer whose first `at` bytes are printed.
-#[derive(Drop)]
+/// A buffer whose front is printed, so far.
+#[derive(Debug, Drop)]
 pub struct Page<'a> {
     out: &'a mut [u8],
     at: usize,
@@ -25,26 +27,27 @@ pub struct Page<'a> {
 }
 
 impl<'a> Page<'a> {
-    ghost use Rattle.figures.specs.Pieces.{spaced_word, spaced, piece_bytes, all_bytes};
-    ghost use Rattle.figures.specs.Sheet.{sheet, Room, Prints};
+    ghost use Rattle.figures.specs.Pieces.{spaced_word, spaced_words, piece_bytes, all_bytes};
+    ghost use Rattle.figures.specs.Sheet.{sheet, blank_sheet, HasRoom, Prints};
 
-    // A page with nothing printed.
+    /// A page with nothing printed, over the whole buffer.
     pub fn new(out: &'a mut [u8]) -> Page<'a>
-        ensures { sheet result ≡ record { buffer = out.entry.ghost_name; printed = []; rest = out.old } }
+        ensures { sheet result ≡ blank_sheet out.entry.ghost_name out.old }
     {
         Page { out, at: 0 }
     }
 
-    // The number of bytes that are printed.
+    /// The number of bytes that are printed: the first ones of the buffer.
     pub fn len(&self) -> usize
         ensures { result ≡ length (sheet self.now).printed }
     {
         self.at
     }
 
+    /// Prints pieces, one after the other.
     #[tactic(auto, using(crate::proofs::Printing::turns))]
     pub fn print(&mut self, pieces: &[Piece])
-        requires { Room self.old (all_bytes pieces.now) }
+        requires { HasRoom self.old (all_bytes pieces.now) }
         ensures { Prints self.old self.new (all_bytes pieces.now) }
     {
         for piece in pieces {
@@ -52,8 +55,9 @@ impl<'a> Page<'a> {
         }
     }
 
+    /// Prints one piece.
     pub fn put(&mut self, piece: Piece)
-        requires { Room self.old (piece_bytes piece) }
+        requires { HasRoom self.old (piece_bytes piece) }
         ensures { Prints self.old self.new (piece_bytes piece.entry) }
     {
         match piece {
@@ -63,39 +67,40 @@ impl<'a> Page<'a> {
         }
     }
 
-    #[tactic(auto, using(crate::proofs::Digits::decimal_shown))]
+    // A number in decimal.
     fn put_decimal(&mut self, n: u32)
-        requires { Room self.old (decimal n) }
+        requires { HasRoom self.old (decimal n) }
         ensures { Prints self.old self.new (decimal n) }
     {
         let mut digits = itoa::Buffer::new();
         self.put_bytes(digits.format(n).as_bytes())
     }
 
-    // Not one with `print`: a loop over either would need a trait of what is printed, with its law and two impls, for two lines.
+    // Words in hexadecimal, with a space before each.
     #[tactic(auto, using(crate::proofs::Printing::turns))]
     fn put_words(&mut self, words: &[u64])
-        requires { Room self.old (spaced words.now) }
-        ensures { Prints self.old self.new (spaced words.now) }
+        requires { HasRoom self.old (spaced_words words.now) }
+        ensures { Prints self.old self.new (spaced_words words.now) }
     {
         for word in words {
             self.put_word(*word);
         }
     }
 
-    #[tactic(auto, using(crate::proofs::Printing::both, crate::proofs::Printing::room_after), unfolding(crate::specs::Figures::ascii))]
+    // A space and a word in hexadecimal.
+    #[tactic(auto, using(crate::proofs::Printing::both, crate::proofs::Printing::room_after))]
     fn put_word(&mut self, word: u64)
-        requires { Room self.old (spaced_word word) }
+        requires { HasRoom self.old (spaced_word word) }
         ensures { Prints self.old self.new (spaced_word word) }
     {
         self.put_bytes(b" ");
         self.put_hexadecimal(word)
     }
 
-    // A word alone. By `io`, since the crate `hex` gives a `Result` and has a table of its own.
+    /// Prints a word in hexadecimal: 16 digits, in small letters.
     #[tactic(auto, using(crate::proofs::Digits::sixteen))]
     pub fn put_hexadecimal(&mut self, word: u64)
-        requires { Room self.old (hexadecimal word) }
+        requires { HasRoom self.old (hexadecimal word) }
         ensures { Prints self.old self.new (hexadecimal word) }
     {
         let mut digits = [0; 16];
@@ -103,9 +108,9 @@ impl<'a> Page<'a> {
         self.put_bytes(&digits)
     }
 
-    // Bytes as they are.
+    /// Prints bytes as they are.
     pub fn put_bytes(&mut self, bytes: &[u8])
-        requires { Room self.old bytes.now }
+        requires { HasRoom self.old bytes.now }
         ensures { Prints self.old self.new bytes.now }
     {
         let end = self.at + bytes.len();

@@ -1,11 +1,9 @@
--- The rules of a geometry at their boundaries, its sizes there, and the rows of some patterns, computed: rows of three tables.
-use Prim.Native.Nat.{ℕ, ◌-◌, ◌^◌}
-use mathlib.Core.Path.{◌≡◌, refl}
-use mathlib.Core.Bool.{Bool, true, false}
-use mathlib.Core.List.{List, [], ◌∷◌, map}
+-- The rules of a geometry at their boundaries, its sizes there, and the rows of some patterns,
+-- computed: rows of three tables.
+use Rattle.std.proofs.Common.{◌≡◌, ℕ, ◌-◌, ◌^◌, Bool, true, false, List, [], ◌∷◌, map, refl}
 use Rattle.words.specs.Rules.{tabulate}
 use Rattle.geometry.specs.declared.Geometry.{Geometry}
-use Rattle.geometry.specs.Valid.{valid, kind_rule}
+use Rattle.geometry.specs.Valid.{is_valid, kind_rule}
 use Rattle.geometry.specs.Sizes.{sets, row_words, match_words, set_length}
 use Rattle.geometry.specs.Stages.{stages, stage_width, stage, row_of, rows_of, rows, indicator_words}
 
@@ -32,12 +30,12 @@ boundaries =
     ∷ rule 2 1000 1 64 true ∷ rule 2 65 12 64 true ∷ rule 2 64 12 64 true ∷ rule 2 63 12 64 false ∷ rule 2 5 2 2 true
     ∷ rule 2 129 1 2 true ∷ rule 2 4096 12 63 true ∷ rule 3 8 2 2 false ∷ []
 
-pub boundaries-hold : map (λ (r : Rule). valid r.geometry) boundaries ≡ map (λ (r : Rule). r.expected) boundaries
-unfolding valid kind_rule
-boundaries-hold = refl
+pub boundaries_hold : map (λ (r : Rule). is_valid r.geometry) boundaries ≡ map (λ (r : Rule). r.expected) boundaries
+unfolding is_valid kind_rule
+boundaries_hold = refl
 
--- A geometry with its sets, the words of a row and of a match word, its stages, rows and words of the indicators; the lengths
--- of its first and its last set; and the rows of its last pattern.
+-- A geometry with its sets, the words of a row and of a match word, its stages, rows and words of
+-- the indicators; the lengths of its first and its last set; and the rows of its last pattern.
 pub record Size : Type 0 where
   pub geometry : Geometry
   pub expected : List (List ℕ)
@@ -73,12 +71,12 @@ sizes =
     ∷ size (four 2 1000 1 64) 16 1 16 1 2 2 (64 ∷ 40 ∷ []) (1 ∷ [])
     ∷ size (four 2 4096 12 63) 66 2 64 1 4096 8192 (63 ∷ 1 ∷ []) (4095 ∷ []) ∷ []
 
-pub sizes-hold : map (λ (r : Size). sizes_of r.geometry) sizes ≡ map (λ (r : Size). r.expected) sizes
+pub sizes_hold : map (λ (r : Size). sizes_of r.geometry) sizes ≡ map (λ (r : Size). r.expected) sizes
 unfolding sets row_words match_words set_length stages stage_width stage row_of rows_of rows indicator_words tabulate
-sizes-hold = refl
+sizes_hold = refl
 
 -- The rows of patterns whose stages differ: the lowest nine bits are stage 0.
-pub rows-hold : rows_of (four 1 2 10 1) 514 ∷ rows_of (four 1 2 27 1) 787457 ∷ rows_of (four 0 2 12 1) 3000 ∷ rows_of (four 2 2 12 1) 3001 ∷ []
+pub rows_hold : rows_of (four 1 2 10 1) 514 ∷ rows_of (four 1 2 27 1) 787457 ∷ rows_of (four 0 2 12 1) 3000 ∷ rows_of (four 2 2 12 1) 3001 ∷ []
     ≡ (2 ∷ 513 ∷ []) ∷ (1 ∷ 514 ∷ 1027 ∷ []) ∷ (3000 ∷ []) ∷ (3001 ∷ []) ∷ []
 unfolding stages stage_width stage row_of rows_of tabulate
-rows-hold = refl
+rows_hold = refl

@@ -1,18 +1,20 @@
--- The stages of a pattern and the rows that a pattern has (docs/MEMORY.md, sections 3 and 4). Rows are numbered through all
--- stages, value x of stage k having row 512 * k + x, so word j of a row stands at its number times the words of a row, plus j.
-use Rattle.std.specs.Prelude.{ℕ, zero, suc, ◌+◌, ◌-◌, ◌*◌, ◌/◌, ◌%◌, ◌^◌, Bool, cond, ◌&&◌, List, eqb, ltb}
+-- The stages of a pattern and the rows that a pattern has (docs/MEMORY.md, sections 3 and 4). Rows
+-- are numbered through all stages, value x of stage k having row 512 * k + x, so word j of a row
+-- stands at its number times the words of a row, plus j.
+use Rattle.std.specs.Prelude.{ℕ, zero, suc, ◌+◌, ◌-◌, ◌*◌, ◌/◌, ◌%◌, ◌^◌, Bool, ◌&&◌, List, if◌then◌else◌, nat_lt, ◌==◌}
+use Rattle.std.specs.Int.{div_ceil}
 use Rattle.words.specs.Rules.{tabulate}
 use Rattle.geometry.specs.declared.Geometry.{Geometry}
 use Rattle.geometry.specs.Valid.{cascaded}
-use Rattle.geometry.specs.Sizes.{rounded_up, row_words}
+use Rattle.geometry.specs.Sizes.{row_words}
 
 -- Only the cascaded kind cuts a pattern; in the others it is one stage whole (rule 4.1).
 unfoldable pub stages : Geometry → ℕ
-stages g = cond (eqb g.kind cascaded) (rounded_up g.pattern_width 9) 1
+stages g = if g.kind == cascaded then div_ceil g.pattern_width 9 else 1
 
 -- Nine bits, but for the last stage, which has those that are left (rule 4.1).
 unfoldable pub stage_width : Geometry → ℕ → ℕ
-stage_width g k = cond (ltb (k + 1) (stages g)) 9 (g.pattern_width - 9 * k)
+stage_width g k = if nat_lt (k + 1) (stages g) then 9 else g.pattern_width - 9 * k
 
 -- The value of stage k of pattern p (rule 4.2).
 unfoldable pub stage : Geometry → (k p : ℕ) → ℕ
@@ -41,4 +43,4 @@ indicator_words g = row_words g * rows g
 
 -- Whether both tables have their lengths: where not, refusal 2 is given (rule 9.1).
 abbrev pub tables_fit : Geometry → (store indicators : ℕ) → Bool
-tables_fit g store indicators = eqb store g.depth && eqb indicators (indicator_words g)
+tables_fit g store indicators = store == g.depth && indicators == indicator_words g

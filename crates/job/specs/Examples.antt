@@ -1,23 +1,24 @@
--- Job files and what they print, as rows of one table: that of examples/listing.txt; each operation and each stray field;
--- figures, counts and match words; the whole-file stops on both sides of their limits, and their order. proofs/Examples.antt
--- computes them all.
-use Rattle.std.specs.Prelude.{ℕ, ◌-◌, ◌/◌, ◌%◌, length, take, replicate}
+-- Job files and what they print, as rows of one table: that of examples/listing.txt; each operation
+-- and each stray field; figures, counts and match words; the whole-file stops on both sides of
+-- their limits, and their order. proofs/Examples.antt computes them all.
+use Rattle.std.specs.Prelude.{ℕ, ◌-◌, ◌/◌, ◌%◌, List, [], ◌∷◌, ◌++◌, map, length, take, replicate, flat_map, codes}
 use Prim.Native.String.{String}
-use mathlib.Core.List.{List, [], ◌∷◌, ◌++◌, map, foldr}
-use Rattle.figures.specs.Figures.{Bytes, ascii}
+use Rattle.figures.specs.Figures.{Bytes}
 
+-- A file, and what is printed of it.
 pub record Example : Type 0 where
   pub file : Bytes
   pub prints : Bytes
 
--- The bytes of some fields.
+-- The bytes of some fields, the low byte of each first.
 unfoldable pub bytes_of : (fields : List ℕ) → Bytes
 bytes_of [] = []
 bytes_of (n ∷ ns) = n % 256 ∷ n / 256 % 256 ∷ n / 65536 % 256 ∷ n / 16777216 % 256 ∷ bytes_of ns
 
+-- Lines, each with its newline.
 unfoldable pub lines_of : List String → Bytes
 lines_of [] = []
-lines_of (l ∷ ls) = ascii l ++ ascii "\n" ++ lines_of ls
+lines_of (l ∷ ls) = codes l ++ codes "\n" ++ lines_of ls
 
 abbrev pub ◌prints◌ : Bytes → List String → Example
 file prints lines = record { file = file; prints = lines_of lines }
@@ -32,15 +33,22 @@ abbrev pub ◌gives◌ : Bytes → String → Turn
 asks gives line = record { asks = asks; line = line }
 
 infix 68 ◌gives◌
+-- The bytes of a command.
 abbrev pub command : (operation address pattern : ℕ) → Bytes
 command operation address pattern = bytes_of (operation ∷ address ∷ pattern ∷ [])
+
+-- The six fields of a header.
+abbrev pub header : (kind depth width set commands offset : ℕ) → Bytes
+header kind depth width set commands offset =
+    bytes_of (kind ∷ depth ∷ width ∷ set ∷ commands ∷ offset ∷ [])
 
 -- A job with this geometry, its commands behind its header, and its first line.
 abbrev pub job : (kind depth width set : ℕ) → String → List Turn → Example
 job kind depth width set first turns =
-    (bytes_of (kind ∷ depth ∷ width ∷ set ∷ length turns ∷ 24 ∷ []) ++ foldr (λ (t : Turn) bytes. t.asks ++ bytes) [] turns)
+    (header kind depth width set (length turns) 24 ++ flat_map (λ (t : Turn). t.asks) turns)
     prints (first ∷ map (λ (t : Turn). t.line) turns)
 
+-- S: the geometry of examples/listing.txt, with its first line.
 abbrev pub first_s : String
 first_s = "kind 2 depth 8 width 2 set 2"
 
@@ -49,11 +57,11 @@ job_s = job 2 8 2 2 first_s
 
 -- S with this offset and number of commands, and no more than its header.
 abbrev pub header_s : (commands offset : ℕ) → Bytes
-header_s n at = bytes_of (2 ∷ 8 ∷ 2 ∷ 2 ∷ n ∷ at ∷ [])
+header_s = header 2 8 2 2
 
 -- A job of no commands with this geometry.
 abbrev pub alone : (kind depth width set : ℕ) → Bytes
-alone kind depth width set = bytes_of (kind ∷ depth ∷ width ∷ set ∷ 0 ∷ 24 ∷ [])
+alone kind depth width set = header kind depth width set 0 24
 
 unfoldable pub examples : List Example
 examples =
@@ -140,14 +148,16 @@ examples =
     ∷ command 3 0 6 gives "12 at 68 w 2 c 0"
     ∷ command 3 0 7 gives "13 none w 2 c 0"
     ∷ [])
-    -- an address, a w and a c that differ; of two equal entries in a line the lower is the hit, and c is the same
+    -- an address, a w and a c that differ; of two equal entries in a line the lower is the hit, and
+    -- c is the same
     ∷ job 2 195 2 3 "kind 2 depth 195 width 2 set 3"
     (command 1 194 2 gives "0 was -"
     ∷ command 3 0 2 gives "1 at 194 w 2 c 3"
     ∷ command 3 0 1 gives "2 none w 2 c 0"
     ∷ command 1 193 2 gives "3 was -"
     ∷ command 3 0 2 gives "4 at 193 w 2 c 3"
-    ∷ command 4 0 2 gives "5 hits 2 0000000000000000 0000000000000000 0000000000000000 0000000000000006"
+    ∷ command 4 0 2
+    gives "5 hits 2 0000000000000000 0000000000000000 0000000000000000 0000000000000006"
     ∷ [])
     -- figures of one digit to nine; the four bytes of a pattern, least first, written out once
     ∷ job 1 3 27 1 "kind 1 depth 3 width 27 set 1"
@@ -162,7 +172,8 @@ examples =
     ∷ command 3 0 134217728 gives "8 no 4"
     ∷ [])
     -- an offset of two bytes; what stands before and after the commands does not count
-    ∷ (header_s 2 300 ++ replicate (300 - 24) 9 ++ command 1 5 3 ++ command 5 5 0 ++ replicate 5 9) prints (first_s ∷ "0 was -" ∷ "1 was 3" ∷ [])
+    ∷ (header_s 2 300 ++ replicate (300 - 24) 9 ++ command 1 5 3 ++ command 5 5 0 ++ replicate 5 9)
+    prints (first_s ∷ "0 was -" ∷ "1 was 3" ∷ [])
     -- under 24 bytes, and 24
     ∷ take 23 (header_s 0 24) prints ("job no 7" ∷ [])
     ∷ header_s 0 24 prints (first_s ∷ [])
@@ -173,18 +184,20 @@ examples =
     ∷ header_s 0 23 prints ("job no 7" ∷ [])
     ∷ header_s 0 25 prints ("job no 7" ∷ [])
     -- commands that the file holds, and some that it lacks a byte of
-    ∷ (header_s 2 24 ++ command 6 0 0 ++ command 5 7 0) prints (first_s ∷ "0 clear" ∷ "1 was -" ∷ [])
+    ∷ (header_s 2 24 ++ command 6 0 0 ++ command 5 7 0)
+    prints (first_s ∷ "0 clear" ∷ "1 was -" ∷ [])
     ∷ take 47 (header_s 2 24 ++ command 6 0 0 ++ command 5 7 0) prints ("job no 7" ∷ [])
     ∷ take 35 (header_s 1 24 ++ command 6 0 0) prints ("job no 7" ∷ [])
     -- commands whose end is past 32 bits, by their number and by the offset
     ∷ (header_s 357913942 24 ++ command 6 0 0) prints ("job no 7" ∷ [])
     ∷ (header_s 1 4294967295 ++ command 6 0 0) prints ("job no 7" ∷ [])
-    -- a bad geometry; the largest; one too large by its depth, and one by its indicators, 4,104 words (none has 4,097 to 4,103)
+    -- a bad geometry; the largest; one too large by its depth, and one by its indicators, 4,104
+    -- words (none has 4,097 to 4,103)
     ∷ alone 3 8 2 2 prints ("job no 1" ∷ [])
     ∷ alone 0 1024 8 1 prints ("kind 0 depth 1024 width 8 set 1" ∷ [])
     ∷ alone 0 1025 1 1 prints ("job no 9" ∷ [])
     ∷ alone 1 256 19 1 prints ("job no 9" ∷ [])
     -- the order: 7 before 1, 1 before 9
-    ∷ bytes_of (3 ∷ 8 ∷ 2 ∷ 2 ∷ 1 ∷ 24 ∷ []) prints ("job no 7" ∷ [])
+    ∷ header 3 8 2 2 1 24 prints ("job no 7" ∷ [])
     ∷ alone 3 1025 2 2 prints ("job no 1" ∷ [])
     ∷ []

@@ -1,17 +1,15 @@
-// The run of a job, which prints its report into a lent buffer. Tables are lent side by side, as in `memory`.
-// Between `usize` and u32, and to fewer bits, a number goes by `as`: there is no `From`, and `TryFrom` would have a failure that cannot be.
+//! The run of a job, which prints its report into a lent buffer. The store, the indicators and the
+//! match word are lent too, and may be longer than the job's own.
 #![tactic(auto)]
 
-ghost use Rattle.std.specs.Prelude.{length};
 ghost use Rattle.io.specs.Counts.{IsPrefixLen};
 ghost use Rattle.calls.specs.Answers.{tables};
-ghost use Rattle.figures.specs.Sheet.{sheet};
-ghost use Rattle.job.specs.Left.{Ready, Runs, Ample, lent, Works, Ran};
+ghost use Rattle.job.specs.Left.{IsReady, Runs, IsAmple, lent_tables, Works, Ran};
 
 use figures::Page;
 use jobfile::Header;
 
-// Runs a job that nothing stops, on tables and a match word of its own lengths. `run_within` shows what is asked.
+// Runs a job that nothing stops, on tables and a match word of its own lengths.
 fn run_job(
     file: &[u8],
     header: Header,
@@ -20,8 +18,9 @@ fn run_job(
     matches: &mut [u64],
     page: &mut Page,
 )
-    requires { Ready file.now header (length store.old) (length indicators.old) (length matches.old) (length (sheet page.old).rest) }
-    ensures { Runs file.now (tables store.new indicators.new) matches.old matches.new page.old page.new }
+    requires { IsReady file.now header (lent_tables store.old indicators.old matches.old) page.old }
+    ensures { Runs file.now (tables store.new indicators.new) matches.old matches.new
+        page.old page.new }
 {
     let g = header.geometry;
     // Nothing is refused: the lengths are the geometry's.
@@ -34,7 +33,7 @@ fn run_job(
     }
 }
 
-// Runs the job in `file` on slices that are large enough for any: those of `run`.
+// Runs the job in `file` on tables and a page that are large enough for any.
 fn run_within(
     file: &[u8],
     store: &mut [u32],
@@ -42,8 +41,11 @@ fn run_within(
     matches: &mut [u64],
     page: &mut Page,
 )
-    requires { Ample (length store.old) (length indicators.old) (length matches.old) (length (sheet page.old).rest) }
-    ensures { Works file.now (lent store.old indicators.old matches.old) (lent store.new indicators.new matches.new) page.old page.new }
+    requires { IsAmple (lent_tables store.old indicators.old matches.old) page.old }
+    ensures { Works file.now
+        (lent_tables store.old indicators.old matches.old)
+        (lent_tables store.new indicators.new matches.new)
+        page.old page.new }
 {
     match jobfile::open(file) {
         Err(stop) => report::put_stop(page, u32::from(stop)),
@@ -63,8 +65,11 @@ fn run_within(
     }
 }
 
-// Runs the job in `file`, prints its report into `out` and gives the number of bytes. `out` is enough for any report: a first
-// line of 34 bytes and 1,363 lines of 287. All is lent and of fixed length: this repository uses no heap. The first clause follows from the second; a caller's `&out[..n]` asks for it.
+/// Runs the job in `file`, prints its report into `out` and gives the number of bytes (sections 13
+/// and 14 of docs/MEMORY.md). Any bytes may be given: a file that is stopped as a whole has a
+/// report of one line, and leaves the tables as they are. `out` is enough for any report: a first
+/// line of 34 bytes and 1,363 lines of 287. A job that runs leaves its tables at the front of the
+/// lent ones.
 pub fn run(
     file: &[u8],
     store: &mut [u32; 1024],
@@ -73,7 +78,10 @@ pub fn run(
     out: &mut [u8; 391215],
 ) -> usize
     ensures prefix_len { IsPrefixLen result out.new }
-    ensures ran { Ran file.now (lent store.old indicators.old matches.old) (lent store.new indicators.new matches.new) out.old out.new result }
+    ensures ran { Ran file.now
+        (lent_tables store.old indicators.old matches.old)
+        (lent_tables store.new indicators.new matches.new)
+        out.old out.new result }
 {
     let mut page = Page::new(out);
     run_within(file, store, indicators, matches, &mut page);

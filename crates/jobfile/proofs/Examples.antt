@@ -1,9 +1,8 @@
 -- The examples hold: antt computes the call of each command.
-use mathlib.Core.Path.{◌≡◌, refl}
-use mathlib.Core.List.{map}
-use Rattle.jobfile.specs.Decoding.{decoded}
-use Rattle.jobfile.specs.Examples.{Example, lent, examples}
+use Rattle.std.proofs.Common.{◌≡◌, map, refl}
+use Rattle.jobfile.specs.Decoding.{decoded_call}
+use Rattle.jobfile.specs.Examples.{Example, lent_length, examples}
 
-pub examples-hold : map (λ (e : Example). decoded lent e.given) examples ≡ map (λ (e : Example). e.asks) examples
-unfolding decoded examples
-examples-hold = refl
+pub examples_hold : map (λ (e : Example). decoded_call lent_length e.given) examples ≡ map (λ (e : Example). e.asks) examples
+unfolding decoded_call examples
+examples_hold = refl

@@ -1,2 +1,4 @@
+pub mod Address
 pub mod Walks
+pub mod Bits
 pub mod Lines

@@ -1,7 +1,6 @@
--- Walks over the places that hold a key: first-match, and then next-match from each address that is given, until none is (rule 10.8 of
--- docs/MEMORY.md).
-use Rattle.std.specs.Prelude.{ℕ, ◌*◌, ◌/◌, ◌%◌, ◌≡◌, ◌↔◌, List, [], ◌∷◌, length, get_or}
-use Rattle.std.proofs.Math.Option.{Option, some}
+-- Walks over the addresses that hold a key: first-match, and then next-match from each address that
+-- is given, until none is (rule 10.8 of docs/MEMORY.md).
+use Rattle.std.specs.Prelude.{◌≡◌, ℕ, ◌*◌, ◌/◌, ◌%◌, ◌↔◌, List, [], ◌∷◌, length, slice_index, Some, None, Option}
 use Rattle.words.specs.Rules.{those}
 use Rattle.words.specs.Bits.{bit}
 use Rattle.geometry.specs.declared.Geometry.{Geometry}
@@ -9,28 +8,41 @@ use Rattle.reference.specs.Calls.{Call, first_match, next_match, all_match, Answ
 use Rattle.reference.specs.Tables.{Tables}
 use Rattle.reference.specs.Steps.{step}
 
--- The address that an answer gives, or that there is none. A refusal and the answers to other calls give neither.
-abbrev pub given : Answer → Option (Option ℕ)
-given (refused n) = Option.none
-given cleared = Option.none
-given (held e) = Option.none
-given (at a w c) = some (some a)
-given (none w c) = some Option.none
-given (next x) = some x
-given (matched ws n) = Option.none
+-- The address that an answer gives, or that there is none. A refusal and the answers to other calls
+-- give neither.
+abbrev pub address_given : Answer → Option (Option ℕ)
+address_given (refused n) = None
+address_given cleared = None
+address_given (held e) = None
+address_given (at a w c) = Some (Some a)
+address_given (none w c) = Some None
+address_given (next x) = Some x
+address_given (matched ws n) = None
 
--- From a call on, each call on the tables that the one before it left, these are the addresses given in turn, until none is.
-unfoldable pub Walk : Geometry → (key : ℕ) → Tables → Call (List ℕ) → (visits : List ℕ) → Type 0
-Walk g key t c [] = given (step g t c).answer ≡ some Option.none
-Walk g key t c (a ∷ visits) = (given (step g t c).answer ≡ some (some a)) × Walk g key (step g t c).tables (next_match a key) visits
+-- The call gives an address.
+abbrev pub GivesAddress : Geometry → Tables → Call (List ℕ) → (a : ℕ) → Type 0
+GivesAddress g t c a = address_given (step g t c).answer ≡ Some (Some a)
+
+-- The call gives that there is none.
+abbrev pub GivesNone : Geometry → Tables → Call (List ℕ) → Type 0
+GivesNone g t c = address_given (step g t c).answer ≡ Some None
+
+-- From a call on, each call on the tables that the one before it left, these are the addresses
+-- given in turn, until none is.
+unfoldable pub IsWalk : Geometry → (key : ℕ) → Tables → Call (List ℕ) → (visits : List ℕ) → Type 0
+IsWalk g key t c [] = GivesNone g t c
+IsWalk g key t c (a ∷ visits) =
+    GivesAddress g t c a × IsWalk g key (step g t c).tables (next_match a key) visits
 
 -- The addresses whose bit of a match word is 1, ascending.
-abbrev pub marked : (matches : List ℕ) → List ℕ
-marked ws = those (64 * length ws) (λ a. bit (get_or ws (a / 64) 0) (a % 64))
+abbrev pub marked_addresses : (matches : List ℕ) → List ℕ
+marked_addresses ws = those (64 * length ws) (λ a. bit (slice_index ws (a / 64)) (a % 64))
 
--- The walk for a key ends, with none of its calls refused, and it visits just the addresses whose bit an all-match sets.
+-- The walk for a key ends, with none of its calls refused, and it visits just the addresses whose
+-- bit an all-match sets.
 pub record WalkVisits (g : Geometry) (t : Tables) (key : ℕ) (lent : List ℕ) : Type 0 where
   pub matches : List ℕ
   pub hits : ℕ
   pub all : (step g t (all_match key lent)).answer ≡ matched matches hits
-  pub walks : (visits : List ℕ) → Walk g key t (first_match key) visits ↔ (visits ≡ marked matches)
+  pub walks : (visits : List ℕ)
+      → IsWalk g key t (first_match key) visits ↔ (visits ≡ marked_addresses matches)

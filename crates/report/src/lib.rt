@@ -1,11 +1,12 @@
-// The lines of a report, printed on a page: that of a command, that of a geometry and that of a stop.
-//
-// Whoever runs a job shows that no job prints more than its buffer holds. By pieces and not by `Display`, as `figures` says.
-#![tactic(auto, using(figures::proofs::Printing::both, figures::proofs::Printing::room_after), unfolding(figures::specs::Figures::ascii, answers::specs::Items::ended, answers::specs::Items::answer_items, crate::specs::Lines::line, crate::specs::Lines::answer_line, crate::specs::Lines::first_line, crate::specs::Lines::stop_line))]
+//! The lines of a report, printed on a page: that of a command, that of a geometry and that of a
+//! stop (docs/MEMORY.md, section 14).
+//!
+//! Each asks for room for its line. No job prints more than its buffer holds: `job` shows it.
+#![tactic(auto, using(figures::proofs::Printing::both, figures::proofs::Printing::room_after))]
 
 ghost use Rattle.reference.specs.Calls.{refused};
 ghost use Rattle.calls.specs.Answers.{answer_for};
-ghost use Rattle.figures.specs.Sheet.{Room, Prints};
+ghost use Rattle.figures.specs.Sheet.{HasRoom, Prints};
 ghost use Rattle.report.specs.Lines.{answer_line, first_line, stop_line};
 
 use calls::Answer;
@@ -14,26 +15,28 @@ use figures::Page;
 use figures::Piece::{Decimal, Text};
 use geometry::Geometry;
 
-// The line of a command.
+/// Prints the line of a command: its number and the answer to it. The match word is that of an
+/// accepted all-match, and any other answer leaves it out.
 pub fn put_answer(page: &mut Page, number: u32, answer: Result<Answer, Refusal>, matches: &[u64])
-    requires { Room page.old (answer_line number (answer_for answer matches.now)) }
+    requires { HasRoom page.old (answer_line number (answer_for answer matches.now)) }
     ensures { Prints page.old page.new (answer_line number (answer_for answer matches.now)) }
 {
     page.put(Decimal(number));
     answers::put_items(page, answer, matches)
 }
 
-// The line of a command that is stopped by the number `why`. Any number: a type of those that stop would ask more of who prints.
+/// Prints the line of a command that is stopped by the number `why`, whichever that is.
 pub fn put_refusal(page: &mut Page, number: u32, why: u32)
-    requires { Room page.old (answer_line number (refused why)) }
+    requires { HasRoom page.old (answer_line number (refused why)) }
     ensures { Prints page.old page.new (answer_line number (refused why)) }
 {
     page.print(&[Decimal(number), Text(" no "), Decimal(why), Text("\n")])
 }
 
-// The first line of a report.
+/// Prints the first line of a report: the four numbers of the geometry.
+#[tactic(auto, unfolding(crate::specs::Lines::first_line))]
 pub fn put_geometry(page: &mut Page, g: Geometry)
-    requires { Room page.old (first_line g) }
+    requires { HasRoom page.old (first_line g) }
     ensures { Prints page.old page.new (first_line g) }
 {
     page.print(&[
@@ -49,9 +52,11 @@ pub fn put_geometry(page: &mut Page, g: Geometry)
     ])
 }
 
-// The only line of a job that is stopped whole, by the number `why`, which is any as above.
+/// Prints the only line of a job that is stopped as a whole, by the number `why`, whichever that
+/// is.
+#[tactic(auto, unfolding(crate::specs::Lines::stop_line))]
 pub fn put_stop(page: &mut Page, why: u32)
-    requires { Room page.old (stop_line why) }
+    requires { HasRoom page.old (stop_line why) }
     ensures { Prints page.old page.new (stop_line why) }
 {
     page.print(&[Text("job no "), Decimal(why), Text("\n")])

@@ -1,9 +1,8 @@
 -- The examples hold: antt computes what each answer of the code stands for.
-use mathlib.Core.Path.{◌≡◌, refl}
-use mathlib.Core.List.{map}
+use Rattle.std.proofs.Common.{◌≡◌, map, refl}
 use Rattle.resume.specs.Resumed.{refusal_for}
 use Rattle.resume.specs.Examples.{Example, ◌means◌, examples}
 
-pub examples-hold : map (λ (e : Example). e.given means refusal_for e.given) examples ≡ examples
+pub examples_hold : map (λ (e : Example). e.given means refusal_for e.given) examples ≡ examples
 unfolding examples
-examples-hold = refl
+examples_hold = refl

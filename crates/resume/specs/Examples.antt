@@ -1,6 +1,6 @@
--- What a resume of the code comes to beside the refusal that it stands for, as rows of a table. proofs/Examples.antt computes it.
-use Rattle.std.specs.Prelude.{ℕ, List, [], ◌∷◌, Result, Ok, Err}
-use Rattle.std.proofs.Math.Option.{Option, none, some}
+-- What a resume of the code comes to beside the refusal that it stands for, as rows of a table.
+-- proofs/Examples.antt computes it.
+use Rattle.std.specs.Prelude.{ℕ, List, [], ◌∷◌, Some, None, Ok, Err, Option, Result}
 use Rattle.checks.specs.declared.Refusal.{Refusal}
 use Rattle.checks.specs.declared.Refusal.TheVariants.{BadGeometry, BadLengths, BadTables}
 
@@ -13,4 +13,9 @@ given means meant = record { given = given; meant = meant }
 
 infix 68 ◌means◌
 unfoldable pub examples : List Example
-examples = Ok tt means none ∷ Err BadGeometry means some 1 ∷ Err BadLengths means some 2 ∷ Err BadTables means some 10 ∷ []
+examples =
+    Ok tt means None
+    ∷ Err BadGeometry means Some 1
+    ∷ Err BadLengths means Some 2
+    ∷ Err BadTables means Some 10
+    ∷ []

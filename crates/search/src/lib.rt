@@ -1,14 +1,14 @@
-// The search of first-match and next-match, and the joined word that all three matches look at (docs/MEMORY.md, section 8). The loops
-// over row words show that a word is one of the row.
+//! The search of first-match and next-match, and the joined word that all three matches look at
+//! (docs/MEMORY.md, section 8).
 #![tactic(auto)]
 
 ghost use Rattle.std.specs.Prelude.{ℕ, ◌<◌, ◌≡◌, List, [], length};
 ghost use Rattle.geometry.specs.Sizes.{row_words};
 ghost use Rattle.geometry.specs.Stages.{indicator_words};
-ghost use Rattle.reference.specs.Search.{joined, found_from, first_found, answer_of};
-ghost use Rattle.checks.specs.Checks.{ok_map};
+ghost use Rattle.reference.specs.Search.{joined_word, found_from, first_found, answer_of};
+ghost use Rattle.checks.specs.Checks.{result_map};
 ghost use Rattle.calls.specs.declared.Answer.TheVariants.{Searched};
-ghost use Rattle.calls.specs.Answers.{answer_for, tables, tables_in};
+ghost use Rattle.calls.specs.Answers.{answer_for, tables, geometry_in, tables_in};
 
 use calls::Search;
 use checks::{Refusal, Tables};
@@ -16,32 +16,37 @@ use geometry::Kind;
 use places::{Offset, RowWord, SetIndex};
 use sizes::Layout;
 
-// A word of the joined row (rule 8.6); padding bits are dropped. It has no use for a store.
+/// Word `j` of the joined row of the key, padding bits dropped (rule 8.6). The store is not looked
+/// at.
 pub fn joined(layout: Layout, indicators: &[u64], key: u32, j: RowWord) -> u64
-    requires { (length indicators.now ≡ indicator_words layout.geometry) × (j.0 < row_words layout.geometry) }
-    ensures { (store : List ℕ) → result ≡ joined layout.geometry (tables store indicators.now) key j.0 }
+    requires whole { length indicators.now ≡ indicator_words layout.geometry }
+    requires in_row { j < row_words layout.geometry }
+    ensures { (store : List ℕ)
+        → result ≡ joined_word layout.geometry (tables store indicators.now) key j }
 {
     (0..layout.sizes.stages)
         .map(|k| j.read(indicators, layout.row(key, k), layout.sizes))
         .fold(j.mask(layout.sizes), |word, read| word & read)
 }
 
-// The search of first-match: from the first set of all on.
+/// The search of first-match, from the first set of all on (rule 8.7): what it finds, or refusal 6.
 pub fn first(tables: &Tables<'_>, key: u32) -> Result<Search, Refusal>
-    ensures { answer_for (ok_map Searched result) [] ≡ answer_of (first_found tables.now.layout.geometry (tables_in tables.now) key) }
+    ensures { answer_for (result_map Searched result) []
+        ≡ answer_of (first_found (geometry_in tables.now) (tables_in tables.now) key) }
 {
     from_set(tables, key, SetIndex::first())
 }
 
-// Looks at the words of the joined row, from the one with the first set's bit on, until one is not 0 (rule 8.14); in the segmented kind
-// then fetches the line of the first indicated set and compares its entries until one is the key (rule 8.7); where none is, the set is
-// false (rule 8.9). Words are counted as they are read, entries as their line is fetched (rule 8.10). The loop gives its value by
-// `break` and is left by its label, a form that the project's rules ask for here, so that it is no chain. Tables and key are two, as in
-// `collect`. A first set past the last finds none, so that nothing is asked of it. Inlined: in `first` the set is known, and what drops
-// low bits falls away (docs/changes/04.md).
+/// The search from a set on (rules 8.7 and 8.14): what it finds, or refusal 6. Looks at the words
+/// of the joined row until one is not 0; in the segmented kind fetches the line of the set of its
+/// lowest bit and compares the entries until one is the key. Where none is, the set is false (rule
+/// 8.9). Words are counted as they are looked at, entries as their line is fetched (rule 8.10).
+/// Where `first` is no set of the geometry, it finds none.
+// Inlined: in `first` the set is known, and what drops low bits falls away.
 #[inline(always)]
 pub fn from_set(tables: &Tables<'_>, key: u32, first: SetIndex) -> Result<Search, Refusal>
-    ensures { answer_for (ok_map Searched result) [] ≡ answer_of (found_from tables.now.layout.geometry (tables_in tables.now) key first.0) }
+    ensures { answer_for (result_map Searched result) []
+        ≡ answer_of (found_from (geometry_in tables.now) (tables_in tables.now) key first) }
 {
     let layout = tables.layout;
     let mut words_read: u16 = 0;

@@ -1,20 +1,25 @@
--- What is told of a call of `read` or `write` that failed, by the cause that the system gives, and what a whole reading gives.
-use Rattle.std.specs.Prelude.{ℕ, ◌+◌, ◌<◌, ◌≡◌, ◌⊎◌, List, length, take, Option, Result, Ok, Err, IfOk}
+-- What is told of a call of `read` or `write` that failed, by the cause that the system gives, and
+-- what a whole reading gives.
+use Rattle.std.specs.Prelude.{◌≡◌, ℕ, ◌+◌, ◌<◌, ◌⊎◌, List, length, take, IfOk, Ok, Err, Option, Result}
 use Rattle.std.specs.declared.io.Error.{Error}
 use Rattle.std.specs.declared.io.ErrorKind.TheVariants.{Interrupted, WouldBlock}
 use Rattle.std.specs.IoError.{error_kind}
 use Rattle.std.specs.Io.KnownBytes.{Consumes, IsAtEnd}
 
--- Causes after which the same call may move something: a signal came first (EINTR), or it would have had to wait (EAGAIN).
-abbrev pub Passing : (cause : Error) → Type 0
-Passing cause = (error_kind cause ≡ Interrupted) ⊎ (error_kind cause ≡ WouldBlock)
+-- Causes after which the same call may move something: a signal came first (EINTR), or it would
+-- have had to wait (EAGAIN).
+abbrev pub IsPassing : (cause : Error) → Type 0
+IsPassing cause = (error_kind cause ≡ Interrupted) ⊎ (error_kind cause ≡ WouldBlock)
 
--- What is told of a cause, with so much patience before and after: the call is made again, for one of it, where the cause passes; or it
--- has failed, where the cause does not pass or no patience was left.
+-- What is told of a cause, with so much patience before and after: the call is made again, for one
+-- of it, where the cause passes; or it has failed, where the cause does not pass or no patience was
+-- left.
 abbrev pub Tells : Result (Unit {0}) Error → (cause : Error) → (before after : ℕ) → Type 0
-Tells (Ok again) cause before after = Passing cause × (before ≡ after + 1)
-Tells (Err failure) cause before after = (failure ≡ cause) × (Passing cause → before ≡ 0)
+Tells (Ok again) cause before after = IsPassing cause × (before ≡ after + 1)
+Tells (Err failure) cause before after = (failure ≡ cause) × (IsPassing cause → before ≡ 0)
 
--- What was read is what the reader had left, where that is known: all of it, or as much as the buffer holds.
+-- What was read is what the reader had left, where that is known: all of it, or as much as the
+-- buffer holds.
 abbrev pub GivesWhole : Result ℕ Error → (old new : Option (List ℕ)) → (bytes : List ℕ) → Type 0
-GivesWhole read old new bytes = IfOk read (λ n. Consumes old new (take n bytes) × (n < length bytes → IsAtEnd new))
+GivesWhole read old new bytes =
+    IfOk read (λ n. Consumes old new (take n bytes) × (n < length bytes → IsAtEnd new))

@@ -1,28 +1,24 @@
-// How write and erase change the tables: another entry comes to an address, and the bits of its set follow (rules 8.2 and 8.4 of
-// docs/MEMORY.md). What the functions here ask is what the check of the call has shown: tables of the layout's lengths, an address below
-// the depth.
+//! How write and erase change the tables: another entry comes to an address, and the bits of its
+//! set follow (rules 8.2 and 8.4 of docs/MEMORY.md). The check of the call has shown that the
+//! tables have the layout's lengths and that the address is below the depth.
 #![tactic(auto)]
 
 ghost use Rattle.std.specs.Prelude.{◌<◌, ◌≡◌, [], length};
-ghost use Rattle.words.specs.Rules.{keep};
-ghost use Rattle.words.specs.Bits.{set_bit, clear_bit};
-ghost use Rattle.geometry.specs.Sizes.{set_of};
 ghost use Rattle.geometry.specs.Stages.{indicator_words};
-ghost use Rattle.cover.specs.Change.{change, others_cover};
-ghost use Rattle.reference.specs.Image.{entry_rows, covers, store_cover};
-ghost use Rattle.checks.specs.Passed.{Lent};
-ghost use Rattle.checks.specs.Checks.{ok_map};
+ghost use Rattle.reference.specs.Image.{covers};
+ghost use Rattle.checks.specs.Passed.{IsLent};
+ghost use Rattle.checks.specs.Checks.{result_map};
+ghost use Rattle.places.specs.Address.{address_number};
 ghost use Rattle.calls.specs.declared.Answer.TheVariants.{Held};
-ghost use Rattle.calls.specs.Answers.{entry_for, tables, left};
-ghost use Rattle.update.specs.Replacing.{replacing};
+ghost use Rattle.calls.specs.Answers.{entry_for, tables, outcome_for};
+ghost use Rattle.update.specs.Replacing.{replace_outcome};
 
 use calls::Entry;
 use checks::Refusal;
 use places::{Address, SetIndex};
 use sizes::Layout;
 
-// Whether an entry covers a row. Tried with `is_some_and`: the proof does not close by names that last, since what the closure within
-// gives has none.
+// Whether an entry covers a row: one of its pattern's, where it has one (rule 6.1).
 fn is_covered_by(layout: Layout, entry: Entry, row: usize) -> bool
     ensures { result ≡ covers layout.geometry (entry_for entry) row }
 {
@@ -32,24 +28,23 @@ fn is_covered_by(layout: Layout, entry: Entry, row: usize) -> bool
     (0..layout.sizes.stages).any(|k| layout.row(pattern, k) == row)
 }
 
-// The address that another entry comes to, in the store. The indicators, which change, are no field: the contract of a method that
-// changes them would have to say besides that all else stays as it is.
+// The address that another entry comes to, with the store as it is before.
 #[derive(Clone, Copy)]
 struct Target<'a> {
     layout: Layout,
     store: &'a [u32],
     address: Address,
     ghost entries: { length store.now ≡ layout.geometry.depth },
-    ghost inside: { address.0 < layout.geometry.depth },
+    ghost inside: { address_number address < layout.geometry.depth },
 }
 
 impl Target<'_> {
-    ghost use Rattle.update.specs.Targets.{cover_in, released};
+    ghost use Rattle.update.specs.Targets.{geometry_of, cover_in, neighbours_cover, is_released_in, SetsRows, ClearsReleased};
 
-    // Sets the bits of an entry's rows in the set.
+    // Sets the bits of an entry's rows in the set of the address.
     fn set_rows(&self, indicators: &mut [u64], entry: Entry)
-        requires { length indicators.old ≡ indicator_words self.now.layout.geometry }
-        ensures { indicators.new ≡ change set_bit self.now.layout.geometry (set_of self.now.layout.geometry self.now.address.0) (entry_rows self.now.layout.geometry (entry_for entry)) indicators.old }
+        requires { length indicators.old ≡ indicator_words (geometry_of self.now) }
+        ensures { SetsRows self.now entry indicators.old indicators.new }
     {
         let Some(pattern) = entry else {
             return;
@@ -67,8 +62,8 @@ impl Target<'_> {
 
     // Whether the entry at an address covers a row.
     fn is_covered_at(&self, address: Address, row: usize) -> bool
-        requires { address.0 < length self.now.store.now }
-        ensures { result ≡ cover_in self.now address.0 row }
+        requires { address_number address < length self.now.store.now }
+        ensures { result ≡ cover_in self.now (address_number address) row }
     {
         let entry = calls::entry_of(address.word(self.store), self.layout.sizes.patterns);
         is_covered_by(self.layout, entry, row)
@@ -76,7 +71,7 @@ impl Target<'_> {
 
     // Whether another address of the set has an entry that covers the row.
     fn others_cover(&self, row: usize) -> bool
-        ensures { result ≡ others_cover self.now.layout.geometry (cover_in self.now) self.now.address.0 row }
+        ensures { result ≡ neighbours_cover self.now row }
     {
         let set = self.address.set(self.layout);
         set.length(self.layout).offsets().any(|at| {
@@ -85,19 +80,18 @@ impl Target<'_> {
         })
     }
 
-    // Whether neither the next entry nor another address of the set covers the row.
+    // Whether a row is released: neither the next entry nor another address of the set covers it.
     #[tactic(auto, unfolding(reference::specs::Image::covers))]
     fn is_released(&self, next: Entry, row: usize) -> bool
-        ensures { result ≡ released self.now (entry_for next) row }
+        ensures { result ≡ is_released_in self.now next row }
     {
         !is_covered_by(self.layout, next, row) && !self.others_cover(row)
     }
 
-    // Clears, of the rows of the former entry, those that are released. Its walk is not that of `set_rows`: one for both would take a test
-    // that is always true there, as a closure; and of an iterator over rows see `Layout::row`.
+    // Clears, of the rows of the former entry, the bits of those that are released.
     fn clear_released(&self, indicators: &mut [u64], previous: Entry, next: Entry)
-        requires { length indicators.old ≡ indicator_words self.now.layout.geometry }
-        ensures { indicators.new ≡ change clear_bit self.now.layout.geometry (set_of self.now.layout.geometry self.now.address.0) (keep (released self.now (entry_for next)) (entry_rows self.now.layout.geometry (entry_for previous))) indicators.old }
+        requires { length indicators.old ≡ indicator_words (geometry_of self.now) }
+        ensures { ClearsReleased self.now previous next indicators.old indicators.new }
     {
         let Some(pattern) = previous else {
             return;
@@ -112,8 +106,9 @@ impl Target<'_> {
     }
 }
 
-// An entry comes to the address: its rows are set, those given up are cleared, and then the store holds it. Gives the former
-// entry, or refusal 5. Store and indicators are two, since both change: `Tables` are to be read.
+/// Another entry comes to the address: its rows are set, those released are cleared, and then the
+/// store holds it. `None` is the empty entry, which an erase brings. Gives the former entry, or
+/// refusal 5, which changes nothing.
 pub fn replace(
     layout: Layout,
     store: &mut [u32],
@@ -121,8 +116,11 @@ pub fn replace(
     address: Address,
     next: Entry,
 ) -> Result<Entry, Refusal>
-    requires { Lent layout.geometry layout.sizes (length store.old) (length indicators.old) × (address.0 < layout.geometry.depth) }
-    ensures { left (ok_map Held result) store.new indicators.new [] ≡ replacing layout.geometry (tables store.old indicators.old) address.0 (entry_for next) }
+    requires lent { IsLent layout.geometry layout.sizes (length store.old) (length indicators.old) }
+    requires inside { address_number address < layout.geometry.depth }
+    ensures { outcome_for (result_map Held result) store.new indicators.new []
+        ≡ replace_outcome layout.geometry (tables store.old indicators.old)
+        (address_number address) (entry_for next) }
 {
     let previous = calls::entry_at(layout, store, address)?;
     let target = Target {

@@ -1,19 +1,13 @@
--- Laws of a search, and of the first bit that is 1 in a row of any number of words, from any place on.
-use Prim.Native.Nat.{ℕ, zero, suc, ◌+◌, ◌-◌, ◌*◌, ◌/◌, ◌%◌, ◌^◌, ◌<◌, ◌≤◌}
-use mathlib.Core.Logic.{◌⊎◌, inl, inr}
-use mathlib.Core.Path.{◌≡◌, refl, sym, ap, ◌∙◌}
-use mathlib.Core.Bool.{Bool, true, false, cond, not, ◌&&◌}
-use native.Mathlib.Nat.{eq-or-lt_of_le}
-use native.Mathlib.Numerals.{add-one}
-use native.Mathlib.Omega.{arith}
-use lib.Dec.{eqb, ltb, leb}
+-- Laws of a search, and of the first bit that is 1 in a row of any number of words, from any place
+-- on.
+use Rattle.std.proofs.Common.{◌≡◌, ℕ, zero, suc, ◌+◌, ◌-◌, ◌*◌, ◌/◌, ◌%◌, ◌^◌, ◌<◌, ◌≤◌, Bool, true, false, cond, not, ◌&&◌, eqb, ltb, leb, ◌⊎◌, refl, sym, ap, ◌∙◌, inl, inr, eq-or-lt_of_le, add-one, arith, ltb-false, ltb-true, le-ltb, eqb-true, le-leb, leb-false, leb-true}
 use lib.Count.{count_trailing_zeros}
-use borrow.Author.Tests.{ltb-true, ltb-false, le-ltb, leb-true, leb-false, le-leb, lt-leb, eqb-true, eqb-false, not-true, not-false}
-use Rattle.words.specs.Rules.{onward, First, Nowhere}
+use borrow.Author.Tests.{lt-leb, eqb-false, not-true, not-false}
+use Rattle.words.specs.Rules.{onward, IsFirst, Nowhere}
 use Rattle.words.specs.Bits.{bit, bits_from}
 use Rattle.words.specs.Seek.{Sought, found, missed, seek, row_from}
-use Rattle.words.proofs.Rules.{first-same, onward-none, onward-same, onward-here, onward-false}
-use Rattle.words.proofs.Bits.{bit-zero, bit-from, from-le, trailing-lowest}
+use Rattle.words.proofs.Rules.{first_same, onward_none, onward_same, onward_here, onward-false}
+use Rattle.words.proofs.Bits.{bit-zero, bit_from, from_le, trailing_lowest}
 
 -- What a search of `left` places from `place` on, after `looks` looks, tells by its result.
 abbrev Outcome : (ℕ → Bool) → (left place looks : ℕ) → Sought → Type 0
@@ -21,10 +15,10 @@ Outcome test left place looks (found i l) =
     (place ≤ i) × (i < place + left) × (test i ≡ true) × ((j : ℕ) → place ≤ j → j < i → test j ≡ false) × (l + place ≡ looks + suc i)
 Outcome test left place looks (missed l) = ((j : ℕ) → place ≤ j → j < place + left → test j ≡ false) × (l ≡ looks + left)
 
-seek-outcome : (test : ℕ → Bool) (left place looks : ℕ) → Outcome test left place looks (seek test left place looks)
+seek_outcome : (test : ℕ → Bool) (left place looks : ℕ) → Outcome test left place looks (seek test left place looks)
 unfolding seek
-seek-outcome test zero place looks = (λ j a b. absurd (omega arith), omega arith)
-seek-outcome test (suc left) place looks = go (test place) refl (seek-outcome test left (suc place) (suc looks))
+seek_outcome test zero place looks = (λ j a b. absurd (omega arith), omega arith)
+seek_outcome test (suc left) place looks = go (test place) refl (seek_outcome test left (suc place) (suc looks))
   where
     -- a place that failed, before others
     before : (j : ℕ) → test place ≡ false → (suc place ≤ j → test j ≡ false) → (place ≡ j) ⊎ (place < j) → test j ≡ false
@@ -37,35 +31,36 @@ seek-outcome test (suc left) place looks = go (test place) refl (seek-outcome te
     widen (missed l) e o = (λ j a b. before j e (λ c. o.0 j c (omega arith)) (eq-or-lt_of_le a), omega arith)
 
     go : (b : Bool) → test place ≡ b → Outcome test left (suc place) (suc looks) (seek test left (suc place) (suc looks))
-        → Outcome test (suc left) place looks (elim b [ true ↦ found place (suc looks) | false ↦ seek test left (suc place) (suc looks) ])
+        → Outcome test (suc left) place looks (cond b (found place (suc looks)) (seek test left (suc place) (suc looks)))
     go true e o = (omega arith, omega arith, e, λ j a b. absurd (omega arith), omega arith)
     go false e o = widen (seek test left (suc place) (suc looks)) e o
 
--- A search of the places from one on, as far as n, finds the first, and has looked at it and all between.
-pub seek_found : (n place : ℕ) (test : ℕ → Bool) (i looks : ℕ) → seek test (n - place) place 0 ≡ found i looks
-    → First n (onward place test) i × (looks + place ≡ i + 1)
-seek_found n place test i looks e =
-    let o : Outcome test (n - place) place 0 (found i looks) = rw e at (seek-outcome test (n - place) place 0) in
+-- A search of the places from one on, as far as n, finds the first, and has looked at it and all
+-- between.
+pub seek-found : (n place : ℕ) (test : ℕ → Bool) (i looks : ℕ) → seek test (n - place) place 0 ≡ found i looks
+    → IsFirst n (onward place test) i × (looks + place ≡ i + 1)
+seek-found n place test i looks e =
+    let o : Outcome test (n - place) place 0 (found i looks) = rw e at (seek_outcome test (n - place) place 0) in
     (record { within = omega arith; here = rw (le-leb place i o.0) o.2; none_before = λ j l. onward-false test place j (λ h. o.3 j h l) }, omega arith)
 
 pub seek-missed : (n place : ℕ) (test : ℕ → Bool) (looks : ℕ) → seek test (n - place) place 0 ≡ missed looks → Nowhere n (onward place test) × (looks ≡ n - place)
 seek-missed n place test looks e =
-    let o : Outcome test (n - place) place 0 (missed looks) = rw e at (seek-outcome test (n - place) place 0) in
+    let o : Outcome test (n - place) place 0 (missed looks) = rw e at (seek_outcome test (n - place) place 0) in
     (λ j l. onward-false test place j (λ h. o.0 j h (omega arith)), omega arith)
 
 -- A search by a loop that counts its looks: a turn, and both ends.
 module _ (test : ℕ → Bool) (n i looks : ℕ) where
-  pub seek-on : i < n → test i ≡ false → seek test (n - (i + 1)) (i + 1) (looks + 1) ≡ seek test (n - i) i looks
+  pub seek_on : i < n → test i ≡ false → seek test (n - (i + 1)) (i + 1) (looks + 1) ≡ seek test (n - i) i looks
   unfolding seek
-  seek-on h e = let left : n - i ≡ suc (n - (i + 1)) = omega arith in rw (left, seek, e, add-one i, add-one looks)
+  seek_on h e = let left : n - i ≡ suc (n - (i + 1)) = omega arith in rw (left, seek, e, add-one i, add-one looks)
 
-  pub seek-here : i < n → test i ≡ true → seek test (n - i) i looks ≡ found i (looks + 1)
+  pub seek_here : i < n → test i ≡ true → seek test (n - i) i looks ≡ found i (looks + 1)
   unfolding seek
-  seek-here h e = let left : n - i ≡ suc (n - (i + 1)) = omega arith in rw (left, seek, e, add-one looks)
+  seek_here h e = let left : n - i ≡ suc (n - (i + 1)) = omega arith in rw (left, seek, e, add-one looks)
 
-  pub seek-over : n ≤ i → seek test (n - i) i looks ≡ missed looks
+  pub seek_over : n ≤ i → seek test (n - i) i looks ≡ missed looks
   unfolding seek
-  seek-over h = let left : n - i ≡ 0 = omega arith in rw left
+  seek_over h = let left : n - i ≡ 0 = omega arith in rw left
 
 -- A row of words f 0, f 1, .. of 64 bits: position i is bit i % 64 of word i / 64.
 abbrev pub row_bit : (ℕ → ℕ) → ℕ → Bool
@@ -78,22 +73,23 @@ nonzero f j = not (eqb (f j) 0)
 row_zero : (f : ℕ → ℕ) (i : ℕ) → nonzero f (i / 64) ≡ false → row_bit f i ≡ false
 row_zero f i h = rw (eqb-true (f (i / 64)) 0 (not-false _ h)) (bit-zero (i % 64))
 
-word_first : (f : ℕ → ℕ) → ((j : ℕ) → f j < 2 ^ 64) → (j : ℕ) → nonzero f j ≡ true → First 64 (bit (f j)) (count_trailing_zeros 64 (f j))
-word_first f w j h = trailing-lowest 64 (f j) (w j) (omega (arith, eqb-false (f j) 0 (not-true _ h)))
+word_first : (f : ℕ → ℕ) → ((j : ℕ) → f j < 2 ^ 64) → (j : ℕ) → nonzero f j ≡ true → IsFirst 64 (bit (f j)) (count_trailing_zeros 64 (f j))
+word_first f w j h = trailing_lowest 64 (f j) (w j) (omega (arith, eqb-false (f j) 0 (not-true _ h)))
 
 -- The lowest set bit of a word that is not zero stands in that word of the row.
 pub row_word : (f : ℕ → ℕ) → ((j : ℕ) → f j < 2 ^ 64) → (j : ℕ) → nonzero f j ≡ true → (64 * j + count_trailing_zeros 64 (f j)) / 64 ≡ j
 row_word f w j h = omega (arith, (word_first f w j h).within)
 
--- in a row of n words the lowest set bit of the first word that is not zero is the first set bit of the row
-whole-first : (n : ℕ) (f : ℕ → ℕ) → ((j : ℕ) → f j < 2 ^ 64) → (j : ℕ) → First n (nonzero f) j → First (64 * n) (row_bit f) (64 * j + count_trailing_zeros 64 (f j))
-whole-first n f w j h = lowest (count_trailing_zeros 64 (f j)) (word_first f w j h.here)
+-- in a row of n words the lowest set bit of the first word that is not zero is the first set bit of
+-- the row
+whole_first : (n : ℕ) (f : ℕ → ℕ) → ((j : ℕ) → f j < 2 ^ 64) → (j : ℕ) → IsFirst n (nonzero f) j → IsFirst (64 * n) (row_bit f) (64 * j + count_trailing_zeros 64 (f j))
+whole_first n f w j h = lowest (count_trailing_zeros 64 (f j)) (word_first f w j h.here)
   where
-    before : (i z : ℕ) → First 64 (bit (f j)) z → i < 64 * j + z → (i / 64 ≡ j) ⊎ (i / 64 < j) → row_bit f i ≡ false
+    before : (i z : ℕ) → IsFirst 64 (bit (f j)) z → i < 64 * j + z → (i / 64 ≡ j) ⊎ (i / 64 < j) → row_bit f i ≡ false
     before i z low l (inl e) = rw e (low.none_before (i % 64) (omega arith))
     before i z low l (inr m) = row_zero f i (h.none_before (i / 64) m)
 
-    lowest : (z : ℕ) → First 64 (bit (f j)) z → First (64 * n) (row_bit f) (64 * j + z)
+    lowest : (z : ℕ) → IsFirst 64 (bit (f j)) z → IsFirst (64 * n) (row_bit f) (64 * j + z)
     lowest z low =
         let word : (64 * j + z) / 64 ≡ j = omega arith in
         let place : (64 * j + z) % 64 ≡ z = omega arith in
@@ -112,29 +108,29 @@ of_both P false x y p q = q
 module _ (f : ℕ → ℕ) (w : (j : ℕ) → f j < 2 ^ 64) (s : ℕ) where
   pub row_from-lt : (j : ℕ) → row_from f s j < 2 ^ 64
   unfolding row_from
-  row_from-lt j = of_both (λ n. n < 2 ^ 64) (eqb j (s / 64)) _ _ (omega (arith, from-le (f j) (s % 64), w j)) (omega (arith, from-le (f j) (s % 64), w j))
+  row_from-lt j = of_both (λ n. n < 2 ^ 64) (eqb j (s / 64)) _ _ (omega (arith, from_le (f j) (s % 64), w j)) (omega (arith, from_le (f j) (s % 64), w j))
 
   -- the row without its words before that of s
   rest : ℕ → ℕ
   rest j = cond (ltb j (s / 64)) 0 (row_from f s j)
 
-  rest-lt : (j : ℕ) → rest j < 2 ^ 64
+  rest_lt : (j : ℕ) → rest j < 2 ^ 64
   unfolding rest
-  rest-lt j = of_both (λ n. n < 2 ^ 64) (ltb j (s / 64)) 0 (row_from f s j) (omega arith) (row_from-lt j)
+  rest_lt j = of_both (λ n. n < 2 ^ 64) (ltb j (s / 64)) 0 (row_from f s j) (omega arith) (row_from-lt j)
 
-  rest-on : (j : ℕ) → s / 64 ≤ j → rest j ≡ row_from f s j
+  rest_on : (j : ℕ) → s / 64 ≤ j → rest j ≡ row_from f s j
   unfolding rest
-  rest-on j l = rw (le-ltb j (s / 64) l)
+  rest_on j l = rw (le-ltb j (s / 64) l)
 
   -- it has the bits of the row from s on
-  rest-bit : (i : ℕ) → row_bit rest i ≡ onward s (row_bit f) i
+  rest_bit : (i : ℕ) → row_bit rest i ≡ onward s (row_bit f) i
   unfolding rest row_from
-  rest-bit i = go (ltb (i / 64) (s / 64)) refl (eqb (i / 64) (s / 64)) refl
+  rest_bit i = go (ltb (i / 64) (s / 64)) refl (eqb (i / 64) (s / 64)) refl
     where
       go : (b : Bool) → ltb (i / 64) (s / 64) ≡ b → (c : Bool) → eqb (i / 64) (s / 64) ≡ c
           → bit (cond b 0 (cond c (bits_from (f (i / 64)) (s % 64)) (f (i / 64)))) (i % 64) ≡ onward s (row_bit f) i
-      go true h c e = let before = ltb-true (i / 64) (s / 64) h in rw (bit-zero, onward-none (row_bit f) s i (omega arith))
-      go false h true e = let same = eqb-true (i / 64) (s / 64) e in rw bit-from (ap (λ b. b && row_bit f i) (tested same (leb s i) refl))
+      go true h c e = let before = ltb-true (i / 64) (s / 64) h in rw (bit-zero, onward_none (row_bit f) s i (omega arith))
+      go false h true e = let same = eqb-true (i / 64) (s / 64) e in rw bit_from (ap (λ b. b && row_bit f i) (tested same (leb s i) refl))
         where
           tested : i / 64 ≡ s / 64 → (b : Bool) → leb s i ≡ b → leb (s % 64) (i % 64) ≡ b
           tested same true l = let past = leb-true s i l in le-leb (s % 64) (i % 64) (omega arith)
@@ -142,23 +138,24 @@ module _ (f : ℕ → ℕ) (w : (j : ℕ) → f j < 2 ^ 64) (s : ℕ) where
       go false h false e =
           let past = ltb-false (i / 64) (s / 64) h in
           let other = eqb-false (i / 64) (s / 64) e in
-          rw (onward-same (row_bit f) s i (omega (arith, other)))
+          rw (onward_same (row_bit f) s i (omega (arith, other)))
 
-  rest-nonzero : (j : ℕ) → onward (s / 64) (nonzero (row_from f s)) j ≡ nonzero rest j
+  rest_nonzero : (j : ℕ) → onward (s / 64) (nonzero (row_from f s)) j ≡ nonzero rest j
   unfolding rest
-  rest-nonzero j = go (ltb j (s / 64)) refl
+  rest_nonzero j = go (ltb j (s / 64)) refl
     where
       go : (b : Bool) → ltb j (s / 64) ≡ b → onward (s / 64) (nonzero (row_from f s)) j ≡ not (eqb (cond b 0 (row_from f s j)) 0)
-      go true h = onward-none (nonzero (row_from f s)) (s / 64) j (ltb-true j (s / 64) h)
-      go false h = onward-same (nonzero (row_from f s)) (s / 64) j (ltb-false j (s / 64) h)
+      go true h = onward_none (nonzero (row_from f s)) (s / 64) j (ltb-true j (s / 64) h)
+      go false h = onward_same (nonzero (row_from f s)) (s / 64) j (ltb-false j (s / 64) h)
 
-  -- the lowest set bit of the first word from there on that is not zero is the first set bit of the row from s on
-  pub row_first : (n j : ℕ) → First n (onward (s / 64) (nonzero (row_from f s))) j
-      → First (64 * n) (onward s (row_bit f)) (64 * j + count_trailing_zeros 64 (row_from f s j))
+  -- the lowest set bit of the first word from there on that is not zero is the first set bit of the
+  -- row from s on
+  pub row_first : (n j : ℕ) → IsFirst n (onward (s / 64) (nonzero (row_from f s))) j
+      → IsFirst (64 * n) (onward s (row_bit f)) (64 * j + count_trailing_zeros 64 (row_from f s j))
   row_first n j first =
-      let on = (onward-here (nonzero (row_from f s)) (s / 64) j first.here).0 in
-      rw (rest-on j on) at (first-same (row_bit rest) (onward s (row_bit f)) rest-bit
-      (whole-first n rest rest-lt j (first-same _ (nonzero rest) rest-nonzero first)))
+      let on = (onward_here (nonzero (row_from f s)) (s / 64) j first.here).0 in
+      rw (rest_on j on) at (first_same (row_bit rest) (onward s (row_bit f)) rest_bit
+      (whole_first n rest rest_lt j (first_same _ (nonzero rest) rest_nonzero first)))
 
-  pub row-nowhere : (n : ℕ) → Nowhere n (onward (s / 64) (nonzero (row_from f s))) → Nowhere (64 * n) (onward s (row_bit f))
-  row-nowhere n h i l = sym (rest-bit i) ∙ row_zero rest i (sym (rest-nonzero (i / 64)) ∙ h (i / 64) (omega arith))
+  pub row_nowhere : (n : ℕ) → Nowhere n (onward (s / 64) (nonzero (row_from f s))) → Nowhere (64 * n) (onward s (row_bit f))
+  row_nowhere n h i l = sym (rest_bit i) ∙ row_zero rest i (sym (rest_nonzero (i / 64)) ∙ h (i / 64) (omega arith))

@@ -1,14 +1,16 @@
-// Bits of 64-bit words and of slices of words. Nothing here knows of memories.
+//! Bits of 64-bit words and of slices of words: one bit changed or asked, the mask of a row, and
+//! counts of ones. Nothing here knows of memories.
 #![tactic(auto)]
 
 ghost use Rattle.std.specs.Prelude.{◌<◌, ◌≤◌, ◌≡◌, length};
 ghost use Rattle.words.specs.Rules.{count};
 ghost use Rattle.words.specs.Bits.{bit, put_bit, clear_bit, bits_from, change_bit, row_mask, total_ones};
 
-// Bit `bit` of word `at` becomes `value`. The address or the set whose bit it is shows what is asked, with what it was asked itself. A
-// bit's number is no type of its own here and below: whoever has one would make it in one line to be taken apart in the next.
+/// Bit `bit` of word `at` is set where `value` holds, and else cleared. Bit 0 is worth 1, and no
+/// other bit changes.
 pub fn put_bit(words: &mut [u64], at: usize, bit: u32, value: bool)
-    requires { (at < length words.old) × (bit < 64) }
+    requires within { at < length words.old }
+    requires is_bit { bit < 64 }
     ensures { words.new ≡ change_bit (put_bit value) words.old at bit }
 {
     words[at] = if value {
@@ -18,7 +20,7 @@ pub fn put_bit(words: &mut [u64], at: usize, bit: u32, value: bool)
     };
 }
 
-// A word with bit `bit` cleared. A set shows what is asked, of its bit in a word of a row.
+/// The word with bit `bit` cleared.
 pub fn without_bit(word: u64, bit: u32) -> u64
     requires { bit < 64 }
     ensures { result ≡ clear_bit word bit }
@@ -26,7 +28,7 @@ pub fn without_bit(word: u64, bit: u32) -> u64
     word & !(1u64 << bit)
 }
 
-// A word without its bits below bit `at`. A set shows what is asked, of its bit in a word of a row.
+/// The word without its bits below bit `at`; the others stay where they are.
 pub fn bits_from(word: u64, at: u32) -> u64
     requires { at < 64 }
     ensures { result ≡ bits_from word at }
@@ -34,7 +36,7 @@ pub fn bits_from(word: u64, at: u32) -> u64
     word >> at << at
 }
 
-// Whether bit `at` of a word is 1. A set shows what is asked, of its bit in a word of a row.
+/// Whether bit `at` of the word is 1.
 pub fn has_bit(word: u64, at: u32) -> bool
     requires { at < 64 }
     ensures { result ≡ bit word at }
@@ -42,7 +44,8 @@ pub fn has_bit(word: u64, at: u32) -> bool
     (word >> at) % 2 == 1
 }
 
-// The mask that drops the padding of a row: the bits of word `word` that stand for one of the row's `places`.
+/// The mask that drops a row's padding. The row has a bit for each of `places` places, 64 in a
+/// word: those bits of its word `word` that stand for a place are 1. It is 0 behind the last place.
 pub fn row_mask(places: usize, word: usize) -> u64
     ensures { result ≡ row_mask places word }
 {
@@ -55,14 +58,14 @@ pub fn row_mask(places: usize, word: usize) -> u64
     (1u64 << (places % 64)) - 1
 }
 
-// The ones of a word.
+/// How many bits of the word are 1.
 pub fn ones(word: u64) -> u32
     ensures { result ≡ count 64 (bit word) }
 {
     word.count_ones()
 }
 
-// The ones of all words. The call that counts its hits shows the bound: a match word has 64 words at most.
+/// How many bits of all words are 1. There may be 64 words, so that it is 4,096 at most.
 pub fn total_ones(words: &[u64]) -> u32
     requires { length words.now ≤ 64 }
     ensures { result ≡ total_ones words.now }

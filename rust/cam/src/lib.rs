@@ -9,6 +9,9 @@
 mod memory;
 mod places;
 pub mod raw;
+// The model's crate `checks` has the same file: it is valid in both languages.
+#[path = "../../../crates/checks/src/reasons.rt"]
+mod reasons;
 
 pub use memory::{AllMatch, Memory};
 pub use places::Places;
@@ -62,13 +65,13 @@ impl Refusal {
 impl fmt::Display for Refusal {
     fn fmt(&self, f: &mut fmt::Formatter) -> fmt::Result {
         let why = match self {
-            Refusal::Geometry => "no such geometry",
-            Refusal::Lengths => "a table or match word of the wrong length",
-            Refusal::Address => "address out of range",
-            Refusal::Pattern => "pattern out of range",
-            Refusal::Entry => "the entry there is no pattern",
-            Refusal::Set => "an indicated set does not hold the key",
-            Refusal::Tables => "no history leaves these tables",
+            Refusal::Geometry => reasons::BAD_GEOMETRY,
+            Refusal::Lengths => reasons::BAD_LENGTHS,
+            Refusal::Address => reasons::BAD_ADDRESS,
+            Refusal::Pattern => reasons::BAD_PATTERN,
+            Refusal::Entry => reasons::BAD_ENTRY,
+            Refusal::Set => reasons::FALSE_SET,
+            Refusal::Tables => reasons::BAD_TABLES,
         };
         write!(f, "refusal {}: {why}", self.number())
     }

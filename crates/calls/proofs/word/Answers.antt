@@ -1,14 +1,13 @@
 -- `calls::word` meets its contract, by the two cases of an entry.
-use Rattle.std.proofs.Common.{ℕ, ◌≡◌, refl, ◌∙◌, Option, Some, None}
-use Rattle.std.specs.Option.{unwrap_or}
+use Rattle.std.proofs.Common.{◌≡◌, ℕ, Some, None, Option, unwrap_or, refl, ◌∙◌}
 use Rattle.reference.specs.Entry.{empty_word, word_of}
 use Rattle.calls.specs.Answers.{entry_for}
 use Rattle.calls.proofs.word.Goals as goal
 
-by-case : (e : Option ℕ) → unwrap_or e empty_word ≡ word_of (entry_for e)
+by_case : (e : Option ℕ) → unwrap_or e empty_word ≡ word_of (entry_for e)
 unfolding word_of
-by-case None = refl
-by-case (Some p) = refl
+by_case None = refl
+by_case (Some p) = refl
 
 pub returns : goal.returns
-returns c = c.unwrap_or.ensures ∙ by-case c.args.entry
+returns c = c.unwrap_or.ensures ∙ by_case c.args.entry

@@ -2,8 +2,8 @@
 use Rattle.std.proofs.Common.{◌≡◌}
 use Rattle.geometry.specs.Sizes.{row_words}
 use Rattle.calls.specs.Answers.{tables_in}
-use Rattle.collect.specs.Marks.{marked}
-use Rattle.collect.proofs.Marking.{taken_below}
+use Rattle.collect.specs.Marks.{marked_words}
+use Rattle.collect.proofs.Marking.{is_taken_below}
 use Rattle.collect.proofs.take_all.Given as goal
 
 abbrev pub invariant-loop-j : goal.invariant-loop-j
@@ -12,4 +12,4 @@ invariant-loop-j l =
     (goal.iterator-loop-j).can_next l.j-iterator
     × (goal.iterator-loop-j).is_finite l.j-iterator
     × (l.j-iterator.end ≡ row_words g)
-    × (l.matches ≡ marked (taken_below g (tables_in l.tables) l.key l.j-iterator.next) l.initial.matches)
+    × (l.matches ≡ marked_words (is_taken_below g (tables_in l.tables) l.key l.j-iterator.next) l.initial.matches)

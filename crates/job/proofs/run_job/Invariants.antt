@@ -1,7 +1,5 @@
 -- By the turns of Running, one for each command; the tables keep their lengths.
-use Prim.Native.Nat.{◌+◌, ◌*◌}
-use mathlib.Core.Path.{◌≡◌}
-use lib.ListN.{length}
+use Rattle.std.proofs.Common.{◌≡◌, ◌+◌, ◌*◌, length}
 use Rattle.calls.specs.Answers.{tables}
 use Rattle.job.proofs.Running.{Progress}
 use Rattle.job.proofs.run_job.Given as goal

@@ -1,40 +1,43 @@
 -- `memory::erase` meets its contract: rows 1 to 3 as they are tested, and what `replace` does.
-use Rattle.std.proofs.Common.{◌<◌, refl, ◌∙◌, ◌∷◌, []}
-use Rattle.machines.specs.Refusals.{◌given-when◌}
-use Rattle.reference.specs.Calls.{erase, lent}
-use Rattle.reference.specs.Steps.{bad_matches, bad_entry, own_refusals, refusals, accepted}
+use Rattle.std.proofs.Common.{◌<◌, [], ◌∷◌, refl, ◌∙◌}
+use Rattle.machines.specs.Refusals.{◌given_when◌}
+use Rattle.reference.specs.Calls.{erase, lent_word}
+use Rattle.reference.specs.Steps.{bad_matches, bad_entry, own_refusals, refusals, accepted_outcome}
 use Rattle.checks.proofs.Rows.{Reaches}
 use Rattle.calls.specs.Answers.{tables}
-use Rattle.calls.proofs.Decided.{refused-left, rest-left, tables-left, call-lent, address-stops, address-passes}
-use Rattle.memory.proofs.Outcomes.{replacing-left}
+use Rattle.calls.proofs.Decided.{outcome_for_refused, outcome_of_rest, outcome_for_tables, call_lent, address_stops, address_passes}
+use Rattle.memory.proofs.Outcomes.{outcome_for_replace}
 use Rattle.memory.proofs.erase.Goals as goal
 use Rattle.memory.proofs.erase.Goals.{In_ok-row}
 
 pub returns-in_err-layout : goal.returns-in_err-layout
-unfolding lent
-returns-in_err-layout c = tables-left _ _ _ (erase _) _ _ _ c.from_residual.ensures c.in_err-layout.ensures.given
+unfolding lent_word
+returns-in_err-layout c = outcome_for_tables _ _ _ (erase _) _ _ _ c.from_residual.ensures c.in_err-layout.ensures.given
 
 -- then row 5 comes next, and the address is one
-address-passed : (c : In_ok-row) → Reaches (refusals c.args.g (tables c.args.store.now c.args.indicators.now) (erase c.args.address.0))
-    (5 given-when bad_entry c.args.g (tables c.args.store.now c.args.indicators.now) c.args.address.0 ∷ [])
+address_passed : (c : In_ok-row) → Reaches (refusals c.args.g (tables c.args.store.now c.args.indicators.now) (erase c.args.address.0))
+    (5 given_when bad_entry c.args.g (tables c.args.store.now c.args.indicators.now) c.args.address.0 ∷ [])
     × (c.args.address.0 < c.args.g.depth)
 unfolding own_refusals bad_matches
-address-passed c = address-passes _ _ (erase _) _ refl refl c.in_ok-layout.ensures.given c.is_outside.ensures c.in_ok-row.ensures
+address_passed c = address_passes _ _ (erase _) _ refl refl c.in_ok-layout.ensures.given c.is_outside.ensures c.in_ok-row.ensures
 
 pub returns-in_err-row : goal.returns-in_err-row
-unfolding lent own_refusals bad_matches
+unfolding lent_word own_refusals bad_matches
 returns-in_err-row c =
-    refused-left _ _ _ (erase _) _ _ _ c.from_residual-in_err-row.ensures
-    (address-stops _ _ (erase _) _ refl refl c.in_ok-layout.ensures.given c.is_outside.ensures c.in_err-row.ensures)
+    outcome_for_refused _ _ _ (erase _) _ _ _ c.from_residual-in_err-row.ensures
+    (address_stops _ _ (erase _) _ refl refl c.in_ok-layout.ensures.given c.is_outside.ensures c.in_err-row.ensures)
 
 pub replace-requires : goal.replace-requires
 replace-requires c =
     let known = c.in_ok-layout.ensures in
-    rw known.its_own (call-lent _ _ c.in_ok-layout.layout known.given known.its_own, (address-passed (goal.at.replace-requires c).In_ok-row).1)
+    rw known.its_own (record {
+      lent = call_lent _ _ c.in_ok-layout.layout known.given known.its_own;
+      inside = (address_passed (goal.at.replace-requires c).In_ok-row).1;
+    })
 
 pub returns : goal.returns
-unfolding lent accepted
+unfolding lent_word accepted_outcome
 returns c =
     let x = c.args in
     let known = c.in_ok-layout.ensures in
-    rw known.its_own at c.replace.ensures ∙ replacing-left _ _ _ _ (erase _) refl refl ∙ rest-left _ _ _ (erase _) (address-passed (goal.at.returns c).In_ok-row).0
+    rw known.its_own at c.replace.ensures ∙ outcome_for_replace _ _ _ _ (erase _) refl refl ∙ outcome_of_rest _ _ _ (erase _) (address_passed (goal.at.returns c).In_ok-row).0

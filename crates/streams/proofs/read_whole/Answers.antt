@@ -1,4 +1,5 @@
--- `streams::read_whole` meets its contract, and ends: what one more read gave comes behind what was filled before.
+-- `streams::read_whole` meets its contract, and ends: what one more read gave comes behind what was
+-- filled before.
 use Rattle.std.proofs.Common.{rules}
 use Rattle.std.proofs.Math.Seq.{take-append-add, take-append-le}
 use Rattle.std.proofs.KnownBytes.{Consumes-trans}

@@ -1,5 +1,5 @@
 -- What is filled is what the reader gave, and each turn leaves less room or less patience.
-use Rattle.std.proofs.Common.{length, ◌-◌, ◌+◌, ◌≤◌, take}
+use Rattle.std.proofs.Common.{◌+◌, ◌-◌, ◌≤◌, length, take}
 use Rattle.std.specs.Io.KnownBytes.{Consumes}
 use Rattle.streams.proofs.read_whole.Given as goal
 

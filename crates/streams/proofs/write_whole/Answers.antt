@@ -1,6 +1,6 @@
--- `streams::write_whole` meets its contract, and ends: what one more write took comes behind what was written before.
-use Rattle.std.proofs.Common.{rules}
-use Rattle.std.proofs.Math.Seq.{take-add}
+-- `streams::write_whole` meets its contract, and ends: what one more write took comes behind what
+-- was written before.
+use Rattle.std.proofs.Common.{take-add, rules}
 use Rattle.std.proofs.lemmas.Slice.{between_to_end}
 use Rattle.std.proofs.KnownBytes.{Appends-trans}
 use Rattle.streams.proofs.write_whole.Goals as goal

@@ -1,5 +1,5 @@
 -- What is written is what the writer took, and each turn leaves fewer bytes or less patience.
-use Rattle.std.proofs.Common.{length, ◌-◌, ◌+◌, ◌≤◌, take}
+use Rattle.std.proofs.Common.{◌+◌, ◌-◌, ◌≤◌, length, take}
 use Rattle.std.specs.Io.KnownBytes.{Appends}
 use Rattle.streams.proofs.write_whole.Given as goal
 

@@ -8,6 +8,6 @@ pub returns : goal.returns
 unfolding change_bit
 returns c =
     elim c.if-value.branch [
-      | then-value w ↦ rw (w.if-value.true, w.words-is) (rw (set_is 64 _ _ c.requires.1))
+      | then-value w ↦ rw (w.if-value.true, w.words-is) (rw (set_is 64 _ _ c.requires.is_bit))
       | else-value w ↦ rw (w.if-value.false, w.words-is, w.without_bit.ensures)
     ]

@@ -1,7 +1,7 @@
 -- `words::without_bit` meets its contract.
 use Rattle.std.proofs.Common.{rules}
-use Rattle.words.proofs.Machine.{clear-is}
+use Rattle.words.proofs.Machine.{clear_is}
 use Rattle.words.proofs.without_bit.Goals as goal
 
 pub returns : goal.returns
-returns c = clear-is 64 _ _ (search rules) c.requires
+returns c = clear_is 64 _ _ (search rules) c.requires

@@ -1,4 +1,5 @@
--- `Page::put_hexadecimal` meets its contract: the digits that `io::hex` spells are the word's sixteen.
+-- `Page::put_hexadecimal` meets its contract: the digits that `io::hex` spells are the word's
+-- sixteen.
 use Rattle.figures.proofs.Digits.{sixteen}
 use Rattle.figures.proofs.Page.put_hexadecimal.Goals as goal
 

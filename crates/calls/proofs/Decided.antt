@@ -82,9 +82,9 @@ module _ {table rest : List RefusalRow} (g : Geometry) (p : ℕ) (reached : Reac
   unfolding bad_pattern
   pattern_stops e = row_stops BadPattern reached (rw limit at e)
 
-  pub pattern_passes : {u : Unit {0}} → Ok u ≡ refused_if BadPattern (leb l.sizes.patterns p) → Reaches table rest
+  pub pattern_passes : {u : Unit {0}} → Ok u ≡ refused_if BadPattern (leb l.sizes.patterns p) → Reaches table rest × (bad_pattern g p ≡ false)
   unfolding bad_pattern
-  pattern_passes e = (row_passes BadPattern reached (rw limit at e)).0
+  pattern_passes e = row_passes BadPattern reached (rw limit at e)
 
 -- Row 6 comes last, and it and the answer are made of one search, by `answers` of what that found.
 pub outcome_for_searched : (g : Geometry) (s i : List ℕ) (c : Call (List ℕ)) (x : Found) (answers : Found → calls.Answer) → answers false_set ≡ refused 6 → lent_word c ≡ []

@@ -42,8 +42,10 @@ fn word_is_false(tables: &Tables<'_>, j: RowWord, key: u32) -> bool
 pub fn any_is_false(tables: &Tables<'_>, key: u32) -> bool
     ensures { result ≡ any_is_false (geometry_in tables.now) (tables_in tables.now) key }
 {
+    // A copy, so that nothing of it is read again at each word.
+    let tables = *tables;
     tables.layout.kind == Kind::Segmented
-        && RowWord::all(tables.layout).any(|j| word_is_false(tables, j, key))
+        && RowWord::all(tables.layout).any(|j| word_is_false(&tables, j, key))
 }
 
 // Marks what all-match takes of an indicated set: in the segmented kind the addresses that have the
@@ -71,8 +73,10 @@ fn take_word(tables: &Tables<'_>, matches: &mut [u64], word: u64, j: RowWord, ke
     requires joined { word ≡ joined_row_word tables.now key j }
     ensures { matches.new ≡ marked_words (is_taken_of_word tables.now key word j) matches.old }
 {
+    // A copy, so that nothing of it is read again at each set.
+    let tables = *tables;
     for set in j.sets(word) {
-        take_set(tables, matches, set, key);
+        take_set(&tables, matches, set, key);
     }
 }
 
@@ -83,8 +87,14 @@ pub fn take_all(tables: &Tables<'_>, matches: &mut [u64], key: u32)
     ensures { matches.new
         ≡ marked_words (is_taken (geometry_in tables.now) (tables_in tables.now) key) matches.old }
 {
-    for j in RowWord::all(tables.layout) {
-        let word = search::joined(tables.layout, tables.indicators, key, j);
+    // Copies, so that neither is read again at each word.
+    let Tables {
+        layout,
+        indicators,
+        ..
+    } = *tables;
+    for j in RowWord::all(layout) {
+        let word = search::joined(layout, indicators, key, j);
         if word != 0 {
             take_word(tables, matches, word, j, key);
         }

@@ -1,6 +1,7 @@
 -- Bytes printed after bytes are both together. In a loop over what is to print there is room for
 -- each turn, and in the end all is printed.
-use Rattle.std.proofs.Common.{◌≡◌, ℕ, suc, ◌+◌, ◌<◌, ◌≤◌, List, [], ◌++◌, length, get_or, drop, flat_map, refl, sym, ap, ◌∙◌, append_assoc, append-nil, zero-add, add-one, arith, length-append, length-drop, take-append-drop, drop_of_length-le, drop-cons, drop-drop}
+use Rattle.std.proofs.Common.{◌≡◌, ℕ, suc, ◌+◌, ◌<◌, ◌≤◌, List, [], ◌++◌, length, get_or, take, drop, flat_map, refl, sym, ap, ◌∙◌, append_assoc, append-nil, zero-add, add-one, arith, length-append, length-drop, take-append-drop, drop_of_length-le, drop-cons, drop-drop}
+use Rattle.std.proofs.lemmas.List.{length-take-le}
 use Rattle.figures.specs.Figures.{Bytes}
 use Rattle.figures.specs.declared.Page.{Page}
 use Rattle.figures.specs.Sheet.{Sheet, sheet, blank_sheet, printed_sheet, Prints}
@@ -38,6 +39,13 @@ appended buffer lent bytes new after begins prints room =
           ∙ ap (λ (s : Sheet). s.printed ++ s.rest) left
           ∙ ap (λ (n : ℕ). bytes ++ drop n lent) (sym (zero-add (length bytes)));
     }
+
+-- a buffer that is printed into keeps its length
+pub same_length : {o p xs : Bytes} {a b : ℕ} → Appended o p a b xs → length p ≡ length o
+unfolding overwritten_buffer
+same_length {o} {p} {xs} {a} {b} first =
+    rw (first.buffer, length-append (take a o ++ xs) (drop (a + length xs) o), length-append (take a o) xs, length-take-le a o (omega (arith, first.ends, first.within)), length-drop (a + length xs) o)
+    (omega (arith, first.ends, first.within))
 
 -- ---- piece by piece
 

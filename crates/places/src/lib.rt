@@ -6,9 +6,9 @@
 
 mod walk;
 
-ghost use Rattle.std.specs.Prelude.{ℕ, ◌+◌, ◌*◌, ◌/◌, ◌%◌, ◌<◌, ◌≡◌, if◌then◌else◌, ◌==◌, nat_le, length, slice_index, slice_index_or, slice_set};
+ghost use Rattle.std.specs.Prelude.{ℕ, ◌+◌, ◌*◌, ◌/◌, ◌%◌, ◌<◌, ◌≡◌, if◌then◌else◌, ◌==◌, nat_lt, nat_le, length, slice_index, slice_index_or, slice_set};
 ghost use Rattle.std.specs.Int.Count.{count_trailing_zeros};
-ghost use Rattle.words.specs.Bits.{bits_from, row_mask};
+ghost use Rattle.words.specs.Bits.{clear_bit, bits_from, row_mask};
 ghost use Rattle.geometry.specs.Sizes.{sets, set_of, offset_of, address_of, set_length};
 ghost use Rattle.reference.specs.Entry.{empty_word};
 ghost use Rattle.places.specs.Lines.{IsLine};
@@ -262,6 +262,13 @@ impl SetIndex {
         words::has_bit(indicators[at], self.0 % 64)
     }
 
+    /// A word of a row without its bit; the other bits stay as they are.
+    pub fn without(self, word: u64) -> u64
+        ensures { result ≡ clear_bit word (self % 64) }
+    {
+        words::without_bit(word, self.0 % 64)
+    }
+
     /// Word `at` of a row, which is `word`, for a search from this set on: the one that has its bit
     /// loses those of the sets before it (rule 8.14).
     pub fn search_word(self, word: u64, at: RowWord) -> u64
@@ -320,10 +327,47 @@ impl Offset {
     {
         Offset(0)
     }
+
+    /// The next one. A set has 64 addresses at most.
+    pub fn next(self) -> Self
+        requires { self < 64 }
+        ensures { result ≡ self + 1 }
+    {
+        Offset(self.0 + 1)
+    }
+
+    /// Whether a set of that length has it.
+    pub fn is_within(self, length: SetLength) -> bool
+        ensures { result ≡ nat_lt self length }
+    {
+        self.0 < u32::from(length.0)
+    }
 }
 
 impl RowWord {
     ghost use Rattle.places.specs.Walks.{Spans, WalksBits};
+
+    /// The first word of a row.
+    pub fn first() -> Self
+        ensures { result ≡ 0 }
+    {
+        RowWord(0)
+    }
+
+    /// The next one. A row has 64 words at most.
+    pub fn next(self) -> Self
+        requires { self < 64 }
+        ensures { result ≡ self + 1 }
+    {
+        RowWord(self.0 + 1)
+    }
+
+    /// Whether a row has that word.
+    pub fn is_within(self, sizes: Sizes) -> bool
+        ensures { result ≡ nat_lt self sizes.row_words }
+    {
+        self.0 < sizes.row_words
+    }
 
     /// All words of a row, in their order.
     pub fn all(layout: Layout) -> Walk<RowWord>

@@ -164,7 +164,7 @@ module _ (g : Geometry) (ok : is_valid g ≡ true) (t : Tables) (mirrors : Mirro
 
   pub first_not_false : is_false (first_found g t key) ≡ false
   first_not_false =
-      rules.refuted _ (λ h. let (s, first, none_equal) = (found_false_means g ok t key 0).0 h in no_false_set s (rules.onward_here (is_indicated g t key) 0 s first.here).1 none_equal)
+      rules.refuted _ (λ h. let (s, first, none_equal) = (found_false_means g f t key 0).0 h in no_false_set s (rules.onward_here (is_indicated g t key) 0 s first.here).1 none_equal)
 
   pub next_not_false : (a : ℕ) → is_false (next_found g t a key) ≡ false
   next_not_false a =

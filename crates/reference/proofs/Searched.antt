@@ -123,25 +123,13 @@ data FoundOnAny (g : Geometry) (t : Tables) (key from : ℕ) (x : Found) : Type 
       → w + from / 64 ≡ s / 64 + 1 → x ≡ hit (address_of g s o) w (set_length g s) → FoundOnAny g t key from x
   by_false : (s : ℕ) → IsFirst (sets g) (onward from (is_indicated g t key)) s → NoEqual g t key s → x ≡ false_set → FoundOnAny g t key from x
 
-module _ (g : Geometry) (ok : is_valid g ≡ true) (t : Tables) (key from : ℕ) where
-  -- what the first indicated set gives; after a hit in kind 2 its whole line was fetched
-  in_set_is : length t.store ≡ g.depth → (s w : ℕ) → IsFirst (sets g) (onward from (is_indicated g t key)) s → w + from / 64 ≡ s / 64 + 1
-      → FoundOnAny g t key from (found_in_set g t key s w)
-  unfolding found_in_set
-  in_set_is long s w first looks = go (eqb g.kind segmented) refl (entries_are g t key s)
-    where
-      go : (b : Bool) → eqb g.kind segmented ≡ b → LowestIs (set_length g s) (equal_at g t key s) (seek_entry g t key s)
-          → FoundOnAny g t key from (found_in_set g t key s w)
-      go true p (at_first o q place) = by_entry s o w first p place looks (rw (p, found_in_set, q) (ap (hit (address_of g s o) w) (length-line g t.store s ok long first.within).0))
-      go true p (at_none q nowhere) = by_false s first (p, nowhere) (rw (p, found_in_set, q))
-      go false p r = by_set s w first p looks (rw (p, found_in_set))
-
+module _ (g : Geometry) (t : Tables) (key from : ℕ) where
   -- no word of the row was found: no set is indicated, and every word was looked at
-  words_missed : (w : ℕ) → seek_word g t key from ≡ missed w → Nowhere (sets g) (onward from (is_indicated g t key)) × (w ≡ row_words g - from / 64)
+  words_missed : Facts g → (w : ℕ) → seek_word g t key from ≡ missed w → Nowhere (sets g) (onward from (is_indicated g t key)) × (w ≡ row_words g - from / 64)
   unfolding seek_word is_indicated
-  words_missed w e =
+  words_missed f w e =
       let missing = seek-missed (row_words g) (from / 64) _ w e in
-      (λ s l. row_nowhere (joined_word g t key) (joined_word-lt g t key) from (row_words g) missing.0 s (omega (arith, sets_most g (facts g ok))), missing.1)
+      (λ s l. row_nowhere (joined_word g t key) from (row_words g) missing.0 s (omega (arith, sets_most g f)), missing.1)
 
   -- the lowest set bit of the word found is the first indicated set, and the words up to it were
   -- looked at
@@ -157,13 +145,26 @@ module _ (g : Geometry) (ok : is_valid g ≡ true) (t : Tables) (key from : ℕ)
         rw same sought.1,
       )
 
+module _ (g : Geometry) (ok : is_valid g ≡ true) (t : Tables) (key from : ℕ) where
+  -- what the first indicated set gives; after a hit in kind 2 its whole line was fetched
+  in_set_is : length t.store ≡ g.depth → (s w : ℕ) → IsFirst (sets g) (onward from (is_indicated g t key)) s → w + from / 64 ≡ s / 64 + 1
+      → FoundOnAny g t key from (found_in_set g t key s w)
+  unfolding found_in_set
+  in_set_is long s w first looks = go (eqb g.kind segmented) refl (entries_are g t key s)
+    where
+      go : (b : Bool) → eqb g.kind segmented ≡ b → LowestIs (set_length g s) (equal_at g t key s) (seek_entry g t key s)
+          → FoundOnAny g t key from (found_in_set g t key s w)
+      go true p (at_first o q place) = by_entry s o w first p place looks (rw (p, found_in_set, q) (ap (hit (address_of g s o) w) (length-line g t.store s ok long first.within).0))
+      go true p (at_none q nowhere) = by_false s first (p, nowhere) (rw (p, found_in_set, q))
+      go false p r = by_set s w first p looks (rw (p, found_in_set))
+
   found_any : length t.store ≡ g.depth → FoundOnAny g t key from (found_from g t key from)
   unfolding found_from
   found_any long = go (seek_word g t key from) refl
     where
       go : (r : Sought) → seek_word g t key from ≡ r → FoundOnAny g t key from (found_from g t key from)
-      go (missed w) e = let missing = words_missed w e in unfound missing.0 (rw (found_from, e, missing.1))
-      go (found j w) e = let place = words_found j w e in rw (found_from, e) (in_set_is long (lowest_set g t key from j) w place.0 place.1)
+      go (missed w) e = let missing = words_missed g t key from (facts g ok) w e in unfound missing.0 (rw (found_from, e, missing.1))
+      go (found j w) e = let place = words_found g t key from j w e in rw (found_from, e) (in_set_is long (lowest_set g t key from j) w place.0 place.1)
 
 -- ---- a first-match, from set 0 on
 
@@ -224,23 +225,23 @@ module _ (g : Geometry) (t : Tables) (a key : ℕ) where
 
 -- The search from a set on comes to a false set exactly where the first indicated one from there is
 -- false.
-pub found_false_means : (g : Geometry) → is_valid g ≡ true → (t : Tables) (key from : ℕ)
+pub found_false_means : (g : Geometry) → Facts g → (t : Tables) (key from : ℕ)
     → (is_false (found_from g t key from) ≡ true) ↔ ((s : ℕ) × IsFirst (sets g) (onward from (is_indicated g t key)) s × NoEqual g t key s)
 unfolding found_from is_false
-found_false_means g ok t key from = (there (seek_word g t key from) refl, back (seek_word g t key from) refl)
+found_false_means g f t key from = (there (seek_word g t key from) refl, back (seek_word g t key from) refl)
   where
     there : (r : Sought) → seek_word g t key from ≡ r → is_false (found_from g t key from) ≡ true
         → (s : ℕ) × IsFirst (sets g) (onward from (is_indicated g t key)) s × NoEqual g t key s
     there (found j w) e h =
-        (lowest_set g t key from j, (words_found g ok t key from j w e).0, (false_means g t key (lowest_set g t key from j) w).0 (rw (found_from, e) at h))
+        (lowest_set g t key from j, (words_found g t key from j w e).0, (false_means g t key (lowest_set g t key from j) w).0 (rw (found_from, e) at h))
     there (missed w) e h = absurd (false≢true (rw (found_from, e) at h))
 
     back : (r : Sought) → seek_word g t key from ≡ r → (s : ℕ) × IsFirst (sets g) (onward from (is_indicated g t key)) s × NoEqual g t key s
         → is_false (found_from g t key from) ≡ true
     back (found j w) e (s, first, no_equal) =
-        let same = first_unique (sets g) (onward from (is_indicated g t key)) s (lowest_set g t key from j) first (words_found g ok t key from j w e).0 in
+        let same = first_unique (sets g) (onward from (is_indicated g t key)) s (lowest_set g t key from j) first (words_found g t key from j w e).0 in
         rw (found_from, e) ((false_means g t key (lowest_set g t key from j) w).1 (rw same at no_equal))
-    back (missed w) e (s, first, no_equal) = absurd (false≢true (sym ((words_missed g ok t key from w e).0 s first.within) ∙ first.here))
+    back (missed w) e (s, first, no_equal) = absurd (false≢true (sym ((words_missed g t key from f w e).0 s first.within) ∙ first.here))
 
 -- A next-match does where its own set gave nothing and the first indicated set behind that one is
 -- false.
@@ -253,12 +254,12 @@ next_false_means g ok t a key = (there (own_is g t a key), back (own_is g t a ke
     there : LowestIs (set_length g (set_of g a)) (own g t a key) (seek_own g t a key) → is_false (next_found g t a key) ≡ true
         → NoneInOwn g t a key × ((s : ℕ) × IsFirstBehind g t a key s × NoEqual g t key s)
     there (at_first o q first) h = absurd (false≢true (rw (next_found, q) at h))
-    there (at_none q nowhere) h = (nowhere, (found_false_means g ok t key (suc (set_of g a))).0 (rw (next_found, q) at h))
+    there (at_none q nowhere) h = (nowhere, (found_false_means g (facts g ok) t key (suc (set_of g a))).0 (rw (next_found, q) at h))
 
     back : LowestIs (set_length g (set_of g a)) (own g t a key) (seek_own g t a key)
         → NoneInOwn g t a key × ((s : ℕ) × IsFirstBehind g t a key s × NoEqual g t key s) → is_false (next_found g t a key) ≡ true
     back (at_first o q first) (nowhere, bad) = absurd (false≢true (sym (nowhere o first.within) ∙ first.here))
-    back (at_none q _) (nowhere, bad) = rw (next_found, q) ((found_false_means g ok t key (suc (set_of g a))).1 bad)
+    back (at_none q _) (nowhere, bad) = rw (next_found, q) ((found_false_means g (facts g ok) t key (suc (set_of g a))).1 bad)
 
 pub any_false_means : (g : Geometry) (t : Tables) (key : ℕ)
     → (any_is_false g t key ≡ true) ↔ ((s : ℕ) × (s < sets g) × (is_indicated g t key s ≡ true) × NoEqual g t key s)

@@ -78,11 +78,14 @@ impl<'a> Row<'a> {
     // Whether a bit of its word `at`, which is `word`, is stale. Kept out of the walk over the
     // words of the row, most of which are 0.
     #[inline(never)]
-    fn word_is_stale(&self, word: u64, at: RowWord) -> bool
-        requires { at < row_words (geometry_of self.now) }
-        ensures { result ≡ exceeds word (word_in_image self.now at) }
+    fn word_is_stale(self, word: u64, at: RowWord) -> bool
+        requires { at < row_words (geometry_of self) }
+        ensures { result ≡ exceeds word (word_in_image self.entry at) }
     {
-        at.sets(word).any(|set| !self.is_covered(set))
+        // A copy, so that nothing of it is read again at each entry.
+        let tables = *self.tables;
+        let row = Row::new(&tables, self.stage, self.value);
+        at.sets(word).any(|set| !row.is_covered(set))
     }
 
     // Whether a bit of its word `at` is stale. A word that is 0 is read and no more.
@@ -106,12 +109,16 @@ impl<'a> Row<'a> {
     }
 }
 
-// Whether any bit in the rows of a stage is stale.
+// Whether any bit in the rows of a stage is stale. Kept apart, so that the walk over the rows has
+// the registers for itself.
+#[inline(never)]
 fn stage_is_stale(tables: &Tables<'_>, stage: u32) -> bool
     requires { stage < stages (geometry_in tables.now) }
     ensures { result ≡ stage_is_stale (geometry_in tables.now) (tables_in tables.now) stage }
 {
-    (0..tables.layout.stage_rows(stage)).any(|value| Row::new(tables, stage, value).is_stale())
+    // A copy, so that nothing of it is read again at each row.
+    let tables = *tables;
+    (0..tables.layout.stage_rows(stage)).any(|value| Row::new(&tables, stage, value).is_stale())
 }
 
 /// The second look: whether any bit is stale, 1 where no entry of its set covers its row. A bit of

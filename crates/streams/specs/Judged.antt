@@ -1,6 +1,6 @@
--- What is told of a call of `read` or `write` that failed, by the cause that the system gives, and
--- what a whole reading gives.
-use Rattle.std.specs.Prelude.{◌≡◌, ℕ, ◌+◌, ◌<◌, ◌⊎◌, List, length, take, IfOk, Ok, Err, Option, Result}
+-- What is told of a call of `read` or `write`, by the number of bytes or the cause that the system
+-- gives, and what a whole reading gives.
+use Rattle.std.specs.Prelude.{◌≡◌, ℕ, ◌+◌, ◌<◌, ◌⊎◌, List, length, take, IfOk, Ok, Err, Some, None, Option, Result}
 use Rattle.std.specs.declared.io.Error.{Error}
 use Rattle.std.specs.declared.io.ErrorKind.TheVariants.{Interrupted, WouldBlock}
 use Rattle.std.specs.IoError.{error_kind}
@@ -17,6 +17,18 @@ IsPassing cause = (error_kind cause ≡ Interrupted) ⊎ (error_kind cause ≡ W
 abbrev pub Tells : Result (Unit {0}) Error → (cause : Error) → (before after : ℕ) → Type 0
 Tells (Ok again) cause before after = IsPassing cause × (before ≡ after + 1)
 Tells (Err failure) cause before after = (failure ≡ cause) × (IsPassing cause → before ≡ 0)
+
+-- What is told of an answer, with so much patience before and after: how many bytes were moved,
+-- which is 0 at the end, and costs none; of a cause, that the call is made again (`None`) or has
+-- failed, as above.
+abbrev pub Judges : Result (Option ℕ) Error → (answer : Result ℕ Error) → (before after : ℕ)
+    → Type 0
+Judges (Ok (Some n)) (Ok moved) before after = (n ≡ moved) × (before ≡ after)
+Judges (Ok (Some n)) (Err cause) before after = ⊥
+Judges (Ok None) (Ok moved) before after = ⊥
+Judges (Ok None) (Err cause) before after = Tells (Ok tt) cause before after
+Judges (Err failure) (Ok moved) before after = ⊥
+Judges (Err failure) (Err cause) before after = Tells (Err failure) cause before after
 
 -- What was read is what the reader had left, where that is known: all of it, or as much as the
 -- buffer holds.

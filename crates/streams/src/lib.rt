@@ -5,7 +5,7 @@
 ghost use Rattle.std.specs.Prelude.{◌≤◌, length, take};
 ghost use Rattle.std.specs.Io.{ReadsAtMost};
 ghost use Rattle.std.specs.Io.KnownBytes.{Appends};
-ghost use Rattle.streams.specs.Judged.{Tells, GivesWhole};
+ghost use Rattle.streams.specs.Judged.{Tells, Judges, GivesWhole};
 
 use std::io::{ErrorKind, Read, Write};
 use std::{io, thread};
@@ -36,6 +36,20 @@ impl Patience {
             _ => Err(cause),
         }
     }
+
+    // What an answer of `read` or `write` comes to: the number of bytes that it moved, which is 0
+    // at the end, or `None` where the call failed and is made again.
+    fn judge(&mut self, answer: io::Result<usize>) -> io::Result<Option<usize>>
+        ensures { Judges result answer self.old.left self.new.left }
+    {
+        match answer {
+            Ok(moved) => Ok(Some(moved)),
+            Err(cause) => {
+                self.wait_after(cause)?;
+                Ok(None)
+            }
+        }
+    }
 }
 
 /// Reads until the input ends or `buf` is full, and answers how many bytes that were: the first of
@@ -48,10 +62,10 @@ pub fn read_whole<R: Read>(reader: &mut R, buf: &mut [u8]) -> io::Result<usize>
     let mut filled = 0;
     let mut patience = Patience::new();
     while filled < buf.len() {
-        match reader.read(&mut buf[filled..]) {
-            Ok(0) => break,
-            Ok(n) => filled += n,
-            Err(cause) => patience.wait_after(cause)?,
+        match patience.judge(reader.read(&mut buf[filled..]))? {
+            Some(0) => break,
+            Some(n) => filled += n,
+            None => {}
         }
     }
     Ok(filled)
@@ -66,14 +80,10 @@ pub fn write_whole<W: Write>(writer: &mut W, text: &[u8]) -> usize
     let mut written = 0;
     let mut patience = Patience::new();
     while written < text.len() {
-        match writer.write(&text[written..]) {
-            Ok(0) => return written,
-            Ok(n) => written += n,
-            Err(cause) => {
-                if patience.wait_after(cause).is_err() {
-                    return written;
-                }
-            }
+        match patience.judge(writer.write(&text[written..])) {
+            Ok(Some(0)) | Err(_) => return written,
+            Ok(Some(n)) => written += n,
+            Ok(None) => {}
         }
     }
     written

@@ -105,18 +105,10 @@ of_both : (P : ℕ → Type 0) (b : Bool) (x y : ℕ) → P x → P y → P (con
 of_both P true x y p q = p
 of_both P false x y p q = q
 
-module _ (f : ℕ → ℕ) (w : (j : ℕ) → f j < 2 ^ 64) (s : ℕ) where
-  pub row_from-lt : (j : ℕ) → row_from f s j < 2 ^ 64
-  unfolding row_from
-  row_from-lt j = of_both (λ n. n < 2 ^ 64) (eqb j (s / 64)) _ _ (omega (arith, from_le (f j) (s % 64), w j)) (omega (arith, from_le (f j) (s % 64), w j))
-
+module _ (f : ℕ → ℕ) (s : ℕ) where
   -- the row without its words before that of s
   rest : ℕ → ℕ
   rest j = cond (ltb j (s / 64)) 0 (row_from f s j)
-
-  rest_lt : (j : ℕ) → rest j < 2 ^ 64
-  unfolding rest
-  rest_lt j = of_both (λ n. n < 2 ^ 64) (ltb j (s / 64)) 0 (row_from f s j) (omega arith) (row_from-lt j)
 
   rest_on : (j : ℕ) → s / 64 ≤ j → rest j ≡ row_from f s j
   unfolding rest
@@ -148,14 +140,23 @@ module _ (f : ℕ → ℕ) (w : (j : ℕ) → f j < 2 ^ 64) (s : ℕ) where
       go true h = onward_none (nonzero (row_from f s)) (s / 64) j (ltb-true j (s / 64) h)
       go false h = onward_same (nonzero (row_from f s)) (s / 64) j (ltb-false j (s / 64) h)
 
+  pub row_nowhere : (n : ℕ) → Nowhere n (onward (s / 64) (nonzero (row_from f s))) → Nowhere (64 * n) (onward s (row_bit f))
+  row_nowhere n h i l = sym (rest_bit i) ∙ row_zero rest i (sym (rest_nonzero (i / 64)) ∙ h (i / 64) (omega arith))
+
+module _ (f : ℕ → ℕ) (w : (j : ℕ) → f j < 2 ^ 64) (s : ℕ) where
+  pub row_from-lt : (j : ℕ) → row_from f s j < 2 ^ 64
+  unfolding row_from
+  row_from-lt j = of_both (λ n. n < 2 ^ 64) (eqb j (s / 64)) _ _ (omega (arith, from_le (f j) (s % 64), w j)) (omega (arith, from_le (f j) (s % 64), w j))
+
+  rest_lt : (j : ℕ) → rest f s j < 2 ^ 64
+  unfolding rest
+  rest_lt j = of_both (λ n. n < 2 ^ 64) (ltb j (s / 64)) 0 (row_from f s j) (omega arith) (row_from-lt j)
+
   -- the lowest set bit of the first word from there on that is not zero is the first set bit of the
   -- row from s on
   pub row_first : (n j : ℕ) → IsFirst n (onward (s / 64) (nonzero (row_from f s))) j
       → IsFirst (64 * n) (onward s (row_bit f)) (64 * j + count_trailing_zeros 64 (row_from f s j))
   row_first n j first =
       let on = (onward_here (nonzero (row_from f s)) (s / 64) j first.here).0 in
-      rw (rest_on j on) at (first_same (row_bit rest) (onward s (row_bit f)) rest_bit
-      (whole_first n rest rest_lt j (first_same _ (nonzero rest) rest_nonzero first)))
-
-  pub row_nowhere : (n : ℕ) → Nowhere n (onward (s / 64) (nonzero (row_from f s))) → Nowhere (64 * n) (onward s (row_bit f))
-  row_nowhere n h i l = sym (rest_bit i) ∙ row_zero rest i (sym (rest_nonzero (i / 64)) ∙ h (i / 64) (omega arith))
+      rw (rest_on f s j on) at (first_same (row_bit (rest f s)) (onward s (row_bit f)) (rest_bit f s)
+      (whole_first n (rest f s) rest_lt j (first_same _ (nonzero (rest f s)) (rest_nonzero f s) first)))

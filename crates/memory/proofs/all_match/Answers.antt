@@ -67,7 +67,7 @@ unfolding lent_word
 returns-in_err-row c =
     let x = c.args in
     let known = c.in_ok-tables.ensures in
-    let reached = pattern_passes x.g x.key (matches_passed (goal.at.returns-in_err-row c).In_ok-match_word).0 c.in_ok-tables.tables.layout known.its_own c.in_ok-pattern.ensures in
+    let reached = (pattern_passes x.g x.key (matches_passed (goal.at.returns-in_err-row c).In_ok-match_word).0 c.in_ok-tables.tables.layout known.its_own c.in_ok-pattern.ensures).0 in
     let found = rw (known.its_own, known.lends.0, known.lends.1) at c.any_is_false.ensures in
     outcome_for_refused _ _ _ (all_match _ _) _ _ _ c.from_residual-in_err-row.ensures
     (row_stops FalseSet reached (rw found at c.in_err-row.ensures))
@@ -85,7 +85,7 @@ returns c =
     let x = c.args in
     let known = c.in_ok-tables.ensures in
     let lengths = matches_passed (goal.at.returns c).In_ok-match_word in
-    let reached = pattern_passes x.g x.key lengths.0 c.in_ok-tables.tables.layout known.its_own c.in_ok-pattern.ensures in
+    let reached = (pattern_passes x.g x.key lengths.0 c.in_ok-tables.tables.layout known.its_own c.in_ok-pattern.ensures).0 in
     let found = rw (known.its_own, known.lends.0, known.lends.1) at c.any_is_false.ensures in
     let zeros : c.fill.new.self ≡ replicate (length x.matches.now) 0 = search rules in
     outcome_for_matched x.g x.store.now x.indicators.now x.matches.now x.key _ _ _ (rw (known.its_own, known.lends.0, known.lends.1) at c.take_all.ensures) zeros

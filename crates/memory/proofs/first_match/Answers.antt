@@ -40,7 +40,7 @@ unfolding lent_word accepted_outcome answer_of
 returns c =
     let x = c.args in
     let known = c.in_ok-tables.ensures in
-    let reached = pattern_passes x.g x.key (lengths_passed x.g (tables x.store.now x.indicators.now) x.key known.given) c.in_ok-tables.tables.layout known.its_own c.in_ok-pattern.ensures in
+    let reached = (pattern_passes x.g x.key (lengths_passed x.g (tables x.store.now x.indicators.now) x.key known.given) c.in_ok-tables.tables.layout known.its_own c.in_ok-pattern.ensures).0 in
     outcome_for_searched x.g x.store.now x.indicators.now (first_match x.key) (first_found x.g (tables x.store.now x.indicators.now) x.key) answer_of refl refl refl
     (result_map Searched c.first.result) (rw (known.its_own, known.lends.0, known.lends.1) at c.first.ensures)
     ∙ outcome_of_rest _ _ _ (first_match _) reached

@@ -48,5 +48,5 @@ unfolding lent_word accepted_outcome
 returns c =
     let x = c.args in
     let known = c.in_ok-layout.ensures in
-    let reached = pattern_passes x.g x.pattern (address_passed (goal.at.returns c).In_ok-row).0 c.in_ok-layout.layout known.its_own c.in_ok-pattern.ensures in
+    let reached = (pattern_passes x.g x.pattern (address_passed (goal.at.returns c).In_ok-row).0 c.in_ok-layout.layout known.its_own c.in_ok-pattern.ensures).0 in
     rw known.its_own at c.replace.ensures ∙ outcome_for_replace _ _ _ _ (write _ _) refl refl ∙ outcome_of_rest _ _ _ (write _ _) reached

@@ -41,7 +41,7 @@ unfolding lent_word accepted_outcome next_of
 returns c =
     let x = c.args in
     let known = c.in_ok-tables.ensures in
-    let reached = pattern_passes x.g x.key (address_passed (goal.at.returns c).In_ok-row) c.in_ok-tables.tables.layout known.its_own c.in_ok-pattern.ensures in
+    let reached = (pattern_passes x.g x.key (address_passed (goal.at.returns c).In_ok-row) c.in_ok-tables.tables.layout known.its_own c.in_ok-pattern.ensures).0 in
     outcome_for_searched x.g x.store.now x.indicators.now (next_match x.address.0 x.key) (next_found x.g (tables x.store.now x.indicators.now) x.address.0 x.key) next_of refl refl refl
     (result_map Next c.found.result) (rw (known.its_own, known.lends.0, known.lends.1) at c.found.ensures)
     ∙ outcome_of_rest _ _ _ (next_match _ _) reached

@@ -5,5 +5,5 @@ use Rattle.std.proofs.Math.Seq.{take-append-add, take-append-le}
 use Rattle.std.proofs.KnownBytes.{Consumes-trans}
 use Rattle.streams.proofs.read_whole.Goals as goal
 
-pub loop-filled-preserved-in-Ok : goal.loop-filled-preserved-in-Ok
-loop-filled-preserved-in-Ok g c = search (rules, take-append-add, take-append-le, Consumes-trans)
+pub loop-filled-preserved-in-Some : goal.loop-filled-preserved-in-Some
+loop-filled-preserved-in-Some g c = search (rules, take-append-add, take-append-le, Consumes-trans)

@@ -5,5 +5,5 @@ use Rattle.std.proofs.lemmas.Slice.{between_to_end}
 use Rattle.std.proofs.KnownBytes.{Appends-trans}
 use Rattle.streams.proofs.write_whole.Goals as goal
 
-pub loop-written-preserved-in-Ok : goal.loop-written-preserved-in-Ok
-loop-written-preserved-in-Ok g c = search (rules, take-add, between_to_end, Appends-trans)
+pub loop-written-preserved-in_default-1 : goal.loop-written-preserved-in_default-1
+loop-written-preserved-in_default-1 g c = search (rules, take-add, between_to_end, Appends-trans)
